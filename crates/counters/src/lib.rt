@@ -1,0 +1,42 @@
+// The counters: one count for each answer number, lent by the caller and counted up in place.
+ghost use mathlib.Core.Path.{_≡_};
+ghost use Rattle.counters.specs.Counters.{raised, cleared};
+
+// Document 01's tally: the calls since clearing that gave each answer number from 0 to 21.
+pub struct Counters {
+    pub counts: [u32; 22],
+}
+
+impl Counters {
+    // Every count 0.
+    pub fn cleared() -> Counters
+        ensures { λ r. ⌜ r ≡ cleared ⌝ }
+    {
+        Counters { counts: [0; 22] }
+    }
+}
+
+// The counters with the count of one answer number raised by one. A count of 4,294,967,295 stays, and so does every count where
+// the number has none.
+pub fn raise(counters: Counters, number: u8) -> Counters
+    ensures { λ r. ⌜ r ≡ raised counters number ⌝ }
+{
+    let at = number as usize;
+    if 22 <= at {
+        return counters;
+    }
+    let old = counters.counts[at];
+    if 4294967295 <= old {
+        return counters;
+    }
+    let mut next = counters;
+    next.counts[at] = old + 1;
+    next
+}
+
+// Counts one answer in the counters that the caller lends.
+pub fn count(counters: &mut Counters, number: u8)
+    ensures { λ _. ⌜ now (counters .exit) ≡ raised (now (counters .entry)) number ⌝ }
+{
+    *counters = raise(*counters, number);
+}
