@@ -1,0 +1,6 @@
+pub mod Cases
+pub mod Numbers
+pub mod Reading
+pub mod Writing
+pub mod Encoding
+pub mod Examples
