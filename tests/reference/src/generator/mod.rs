@@ -1,0 +1,19 @@
+//! Seeded random material: calls, logs and tables that reach every rule and every answer number.
+//!
+//! | Module | Makes |
+//! |---|---|
+//! | [`random`] | random numbers from a seed |
+//! | [`peers`] | an own key and nodes in chosen buckets |
+//! | [`datagrams`] | packets, good and damaged |
+//! | [`calls`] | calls that follow a table's state |
+//! | [`logs`] | logs: lines of calls, damaged lines, `own` lines |
+//! | [`tables`] | sound tables, also those that no run reaches |
+//! | [`coverage`] | counts of the answers and of the cases at the edges |
+
+pub mod calls;
+pub mod coverage;
+pub mod datagrams;
+pub mod logs;
+pub mod peers;
+pub mod random;
+pub mod tables;

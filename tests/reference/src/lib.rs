@@ -1,0 +1,43 @@
+//! A second, plain implementation of document 01, to compare the proved library and the replay
+//! program with. It shares no code with them and knows nothing of their byte layout: the table is
+//! plain structs with `VecDeque`s, an answer is document 01's number with its values.
+//!
+//! Quoted sentences in comments are document 01's, "(001)" marks the discv4 page; L1, A1, T1 .. are
+//! the settled readings of docs/DECISIONS.md.
+//!
+//! | Module | Holds |
+//! |---|---|
+//! | [`keccak`] | Keccak-256 |
+//! | [`rlp`] | strict RLP, read and written |
+//! | [`packet`] | the six packets, read and written; join |
+//! | [`bucket`] | a table's entry and bucket, and what the rules do to one bucket |
+//! | [`table`] | the table and its four calls, the counters |
+//! | [`log`] | log lines, answers, printout: the replay |
+//! | [`calls`] | sequences of calls as values, to compare another implementation call by call |
+//! | [`generator`] | seeded random calls, tables and logs |
+//!
+//! Programs: `replay` (a log in, answers and printout out), `generate` (a seeded log) and
+//! `example_log` (the example of the README).
+
+pub mod bucket;
+pub mod calls;
+pub mod generator;
+pub mod keccak;
+pub mod log;
+pub mod packet;
+pub mod rlp;
+pub mod table;
+
+/// An answer number of document 01.
+pub type Number = u8;
+
+/// Lower-case hex of any bytes.
+pub fn hex(bytes: &[u8]) -> String {
+    const DIGITS: &[u8; 16] = b"0123456789abcdef";
+    let mut text = String::with_capacity(2 * bytes.len());
+    for byte in bytes {
+        text.push(DIGITS[usize::from(byte >> 4)] as char);
+        text.push(DIGITS[usize::from(byte & 15)] as char);
+    }
+    text
+}
