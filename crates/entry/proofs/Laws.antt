@@ -16,7 +16,7 @@ use Rattle.entry.specs.declared.EndpointProof.{EndpointProof}
 use Rattle.entry.specs.declared.EndpointProof.the-variants.{Unproved, At}
 use Rattle.entry.specs.declared.PingState.{PingState}
 use Rattle.entry.specs.declared.PingState.the-variants.{Quiet, Out}
-use Rattle.entry.specs.Layout.{encodeEntry, decodeEntry, encodeEndpoint, decodeEndpoint, encodeStamp, proofStamp, decodeProof, pickProof, pingStamp, decodePing, pickPing}
+use Rattle.entry.specs.Layout.{encodeEntry, decodeEntry, encodeEndpoint, decodeEndpoint, encodeStamp, decodeStamp, proofStamp, proofOf, pingStamp, pingOf}
 
 -- ---- lengths
 
@@ -88,13 +88,9 @@ decode-endpoint s at =
       part-part s at 21 19 2 (omega arith),
     )
 
-pub decode-proof : (s : List ℕ) (at : ℕ)
-    → decodeProof (part s at 9) ≡ pickProof (eqb (getD s at 0) 0) Unproved (At (record { 0 = number (part s (at + 1) 8) }))
-decode-proof s at = cc (getD-part s at 9 0 (omega arith), add-zero at, part-part s at 9 1 8 (omega arith))
-
-pub decode-ping : (s : List ℕ) (at : ℕ)
-    → decodePing (part s at 9) ≡ pickPing (eqb (getD s at 0) 0) Quiet (Out (record { 0 = number (part s (at + 1) 8) }))
-decode-ping s at = cc (getD-part s at 9 0 (omega arith), add-zero at, part-part s at 9 1 8 (omega arith))
+pub decode-stamp : (s : List ℕ) (at : ℕ) → decodeStamp (part s at 9) ≡ record { flag = getD s at 0; time = number (part s (at + 1) 8) }
+unfolding decodeStamp
+decode-stamp s at = cc (getD-part s at 9 0 (omega arith), add-zero at, part-part s at 9 1 8 (omega arith))
 
 pub decode-entry : (s : List ℕ) (at : ℕ)
     → decodeEntry (part s at 143)
@@ -102,8 +98,8 @@ pub decode-entry : (s : List ℕ) (at : ℕ)
       key = part s at 64;
       endpoint = decodeEndpoint (part s (at + 64) 21);
       seen = record { 0 = number (part s (at + 85) 8) };
-      proof = decodeProof (part s (at + 93) 9);
-      ping = decodePing (part s (at + 102) 9);
+      proof = proofOf (decodeStamp (part s (at + 93) 9));
+      ping = pingOf (decodeStamp (part s (at + 102) 9));
       hash = part s (at + 111) 32;
     }
 unfolding decodeEntry
@@ -119,15 +115,17 @@ decode-entry s at =
     )
 
 -- the calls of `load_entry`, put together
-pub loaded-entry : (s : List ℕ) (at : ℕ) {key hash : List ℕ} {endpoint : Endpoint} {seen : ℕ} {proof : EndpointProof} {ping : PingState}
+pub loaded-entry : (s : List ℕ) (at : ℕ) {key hash : List ℕ} {endpoint : Endpoint} {seen : ℕ} {t u : Stamp} {proof : EndpointProof} {ping : PingState}
     → key ≡ part s at 64
     → endpoint ≡ decodeEndpoint (part s (at + 64) 21)
     → seen ≡ number (part s (at + 85) 8)
-    → proof ≡ decodeProof (part s (at + 93) 9)
-    → ping ≡ decodePing (part s (at + 102) 9)
+    → t ≡ decodeStamp (part s (at + 93) 9)
+    → proof ≡ proofOf t
+    → u ≡ decodeStamp (part s (at + 102) 9)
+    → ping ≡ pingOf u
     → hash ≡ part s (at + 111) 32
     → record { key = key; endpoint = endpoint; seen = record { 0 = seen }; proof = proof; ping = ping; hash = hash } ≡ decodeEntry (part s at 143)
-loaded-entry s at e₁ e₂ e₃ e₄ e₅ e₆ = cc (decode-entry s at)
+loaded-entry s at e₁ e₂ e₃ e₄ e₅ e₆ e₇ e₈ = cc (decode-entry s at)
 
 -- ---- an entry is read back from its bytes
 
@@ -165,19 +163,20 @@ decode-encode-endpoint e a u t =
     cc (number-bigEndian 2 (e .udp) u, number-bigEndian 2 (e .tcp) t) in
     fields
 
-part-stamp : (s : Stamp) → part (encodeStamp s) 1 8 ≡ bigEndian 8 (s .time)
-unfolding encodeStamp
-part-stamp s = part-middle _ (s .flag ∷ []) (bigEndian 8 (s .time)) [] 1 8 (simp append-nil) refl (length-bigEndian 8 (s .time))
+decode-encode-stamp : (s : Stamp) → s .time < 2 ^ 64 → decodeStamp (encodeStamp s) ≡ record { flag = s .flag; time = s .time }
+unfolding decodeStamp encodeStamp
+decode-encode-stamp s h =
+    let time : part (encodeStamp s) 1 8 ≡ bigEndian 8 (s .time) =
+    part-middle _ (s .flag ∷ []) (bigEndian 8 (s .time)) [] 1 8 (simp append-nil) refl (length-bigEndian 8 (s .time)) in
+    ap (λ (n : ℕ). record { flag = s .flag; time = n }) (ap number time ∙ number-bigEndian 8 (s .time) h)
 
-decode-encode-proof : (p : EndpointProof) → ProofFits p → decodeProof (encodeStamp (proofStamp p)) ≡ p
-unfolding encodeStamp
-decode-encode-proof Unproved h = refl
-decode-encode-proof (At t) h = ap (λ (n : ℕ). At (record { 0 = n })) (ap number (part-stamp (record { flag = 1; time = t .0 })) ∙ number-bigEndian 8 (t .0) h)
+decode-encode-proof : (p : EndpointProof) → ProofFits p → proofOf (decodeStamp (encodeStamp (proofStamp p))) ≡ p
+decode-encode-proof Unproved h = ap proofOf (decode-encode-stamp (proofStamp Unproved) (omega arith))
+decode-encode-proof (At t) h = ap proofOf (decode-encode-stamp (proofStamp (At t)) h)
 
-decode-encode-ping : (p : PingState) → PingFits p → decodePing (encodeStamp (pingStamp p)) ≡ p
-unfolding encodeStamp
-decode-encode-ping Quiet h = refl
-decode-encode-ping (Out t) h = ap (λ (n : ℕ). Out (record { 0 = n })) (ap number (part-stamp (record { flag = 1; time = t .0 })) ∙ number-bigEndian 8 (t .0) h)
+decode-encode-ping : (p : PingState) → PingFits p → pingOf (decodeStamp (encodeStamp (pingStamp p))) ≡ p
+decode-encode-ping Quiet h = ap pingOf (decode-encode-stamp (pingStamp Quiet) (omega arith))
+decode-encode-ping (Out t) h = ap pingOf (decode-encode-stamp (pingStamp (Out t)) h)
 
 pub decode-encode : (p : Entry) → IsEntry p → decodeEntry (encodeEntry p) ≡ p
 unfolding decodeEntry encodeEntry

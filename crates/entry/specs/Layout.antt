@@ -1,6 +1,6 @@
 -- The byte form of an entry: 143 bytes, numbers big-endian.
 use Prim.Native.Nat.{ℕ, suc}
-use mathlib.Core.Bool.{Bool, true, false}
+use mathlib.Core.Bool.{cond}
 use mathlib.Core.List.{List, [], _∷_, _++_}
 use lib.Dec.{eqb}
 use lib.ListN.{getD}
@@ -25,29 +25,23 @@ decodeEndpoint s =
 unfoldable pub encodeStamp : Stamp → List ℕ
 encodeStamp s = (s .flag ∷ []) ++ bigEndian 8 (s .time)
 
--- no proof: flag 0 and time 0
+unfoldable pub decodeStamp : List ℕ → Stamp
+decodeStamp s = record { flag = getD s 0 0; time = number (part s 1 8) }
+
+-- unproved, and quiet: flag 0 and time 0
 abbrev pub proofStamp : EndpointProof → Stamp
 proofStamp Unproved = record { flag = 0; time = 0 }
 proofStamp (At t) = record { flag = 1; time = t .0 }
 
-abbrev pub pickProof : Bool → EndpointProof → EndpointProof → EndpointProof
-pickProof true a b = a
-pickProof false a b = b
-
-abbrev pub decodeProof : List ℕ → EndpointProof
-decodeProof s = pickProof (eqb (getD s 0 0) 0) Unproved (At (record { 0 = number (part s 1 8) }))
-
--- quiet: flag 0 and time 0
 abbrev pub pingStamp : PingState → Stamp
 pingStamp Quiet = record { flag = 0; time = 0 }
 pingStamp (Out t) = record { flag = 1; time = t .0 }
 
-abbrev pub pickPing : Bool → PingState → PingState → PingState
-pickPing true a b = a
-pickPing false a b = b
+abbrev pub proofOf : Stamp → EndpointProof
+proofOf s = cond (eqb (s .flag) 0) Unproved (At (record { 0 = s .time }))
 
-abbrev pub decodePing : List ℕ → PingState
-decodePing s = pickPing (eqb (getD s 0 0) 0) Quiet (Out (record { 0 = number (part s 1 8) }))
+abbrev pub pingOf : Stamp → PingState
+pingOf s = cond (eqb (s .flag) 0) Quiet (Out (record { 0 = s .time }))
 
 -- key 64, endpoint 21, last seen 8, proof 9, ping 9, ping hash 32
 unfoldable pub encodeEntry : Entry → List ℕ
@@ -60,8 +54,8 @@ decodeEntry s =
       key = part s 0 64;
       endpoint = decodeEndpoint (part s 64 21);
       seen = record { 0 = number (part s 85 8) };
-      proof = decodeProof (part s 93 9);
-      ping = decodePing (part s 102 9);
+      proof = proofOf (decodeStamp (part s 93 9));
+      ping = pingOf (decodeStamp (part s 102 9));
       hash = part s 111 32;
     }
 

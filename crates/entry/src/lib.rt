@@ -4,7 +4,7 @@ ghost use mathlib.Core.Path.{_≡_};
 ghost use Prim.Native.Nat.{_+_, _≤_};
 ghost use lib.ListN.{length};
 ghost use Rattle.octets.specs.Octets.{part, store, number};
-ghost use Rattle.entry.specs.Layout.{encodeEntry, decodeEntry, encodeEndpoint, decodeEndpoint, encodeStamp, proofStamp, decodeProof, pingStamp, decodePing};
+ghost use Rattle.entry.specs.Layout.{encodeEntry, decodeEntry, encodeEndpoint, decodeEndpoint, encodeStamp, decodeStamp, proofStamp, pingStamp, proofOf, pingOf};
 
 // Document 01's box milliseconds: a clock that never goes back. Pings and proofs are timed by it.
 pub struct MonotonicMillis(pub u64);
@@ -100,26 +100,31 @@ fn load_endpoint(bytes: &[u8], at: usize) -> Endpoint
     }
 }
 
-fn load_proof(bytes: &[u8], at: usize) -> EndpointProof
+pub fn load_stamp(bytes: &[u8], at: usize) -> Stamp
     requires { ⌜ at + 9 ≤ length (now bytes) ⌝ }
-    ensures { λ r. ⌜ r ≡ decodeProof (part (now (bytes .entry)) at 9) ⌝ }
+    ensures { λ r. ⌜ r ≡ decodeStamp (part (now (bytes .entry)) at 9) ⌝ }
 {
     let flag = bytes[at];
-    if flag == 0 {
-        return EndpointProof::Unproved;
-    }
-    EndpointProof::At(MonotonicMillis(octets::number_at(bytes, at + 1, 8)))
+    let time = octets::number_at(bytes, at + 1, 8);
+    Stamp { flag, time }
 }
 
-fn load_ping(bytes: &[u8], at: usize) -> PingState
-    requires { ⌜ at + 9 ≤ length (now bytes) ⌝ }
-    ensures { λ r. ⌜ r ≡ decodePing (part (now (bytes .entry)) at 9) ⌝ }
+pub fn proof_of(s: Stamp) -> EndpointProof
+    ensures { λ r. ⌜ r ≡ proofOf s ⌝ }
 {
-    let flag = bytes[at];
-    if flag == 0 {
+    if s.flag == 0 {
+        return EndpointProof::Unproved;
+    }
+    EndpointProof::At(MonotonicMillis(s.time))
+}
+
+pub fn ping_of(s: Stamp) -> PingState
+    ensures { λ r. ⌜ r ≡ pingOf s ⌝ }
+{
+    if s.flag == 0 {
         return PingState::Quiet;
     }
-    PingState::Out(MonotonicMillis(octets::number_at(bytes, at + 1, 8)))
+    PingState::Out(MonotonicMillis(s.time))
 }
 
 // The entry whose bytes start at index `at`.
@@ -131,8 +136,10 @@ pub fn load_entry(bytes: &[u8], at: usize) -> Entry
     octets::get_bytes(&mut key, bytes, at);
     let endpoint = load_endpoint(bytes, at + 64);
     let seen = MonotonicMillis(octets::number_at(bytes, at + 85, 8));
-    let proof = load_proof(bytes, at + 93);
-    let ping = load_ping(bytes, at + 102);
+    let proof = load_stamp(bytes, at + 93);
+    let proof = proof_of(proof);
+    let ping = load_stamp(bytes, at + 102);
+    let ping = ping_of(ping);
     let mut hash = [0u8; 32];
     octets::get_bytes(&mut hash, bytes, at + 111);
     Entry {

@@ -6,12 +6,16 @@ use mathlib.Core.List.{List, [], _∷_, _++_, map}
 use native.Mathlib.Omega.{arith}
 use lib.Dec.{ltb}
 use lib.ListN.{length, getD}
-use Rattle.lists.specs.Lists.{first, select, modify, All, Rising}
+use Rattle.lists.specs.Lists.{first, select, any, all, empty, before, modify, All, Rising}
 
 -- a proof by the two outcomes of a test, each with the equation to rewrite by
 pub byTest : {P : Type 0} (b : Bool) → (b ≡ true → P) → (b ≡ false → P) → P
 byTest true f g = f refl
 byTest false f g = g refl
+
+-- no test has both outcomes
+pub never : {P : Type 0} → true ≡ false → P
+never h = absurd (let z : _≡_ {A = ℕ} 0 1 = cc in omega arith)
 
 pub and-left : (a b : Bool) → (a && b) ≡ true → a ≡ true
 and-left true b h = refl
@@ -59,6 +63,10 @@ module _ {A : Type 0} where
   All-select P q [] p = tt
   All-select P q (a ∷ l) p = byTest (q a) (λ h. rw h (p .0, All-select P q l (p .1))) (λ h. rw h (All-select P q l (p .1)))
 
+  pub All-before : (P : A → Type 0) (q : A → Bool) (l : List A) → All P l → All P (before q l)
+  All-before P q [] p = tt
+  All-before P q (a ∷ l) p = byTest (q a) (λ h. rw h tt) (λ h. rw h (p .0, All-before P q l (p .1)))
+
   pub All-append : (P : A → Type 0) (l m : List A) → All P l → All P m → All P (l ++ m)
   All-append P [] m p r = r
   All-append P (a ∷ l) m p r = (p .0, All-append P l m (p .1) r)
@@ -70,6 +78,88 @@ module _ {A : Type 0} where
   pub All-imp : (P Q : A → Type 0) → ((a : A) → P a → Q a) → (l : List A) → All P l → All Q l
   All-imp P Q h [] p = tt
   All-imp P Q h (a ∷ l) p = (h a (p .0), All-imp P Q h l (p .1))
+
+  pub All-every : (P : A → Type 0) → ((a : A) → P a) → (l : List A) → All P l
+  All-every P h [] = tt
+  All-every P h (a ∷ l) = (h a, All-every P h l)
+
+  pub All-none : (P : A → Type 0) (l : List A) → length l ≡ 0 → All P l
+  All-none P [] h = tt
+  All-none P (a ∷ l) h = absurd (omega arith)
+
+  pub All-left : (P : A → Type 0) (l m : List A) → All P (l ++ m) → All P l
+  All-left P [] m p = tt
+  All-left P (a ∷ l) m p = (p .0, All-left P l m (p .1))
+
+  pub All-right : (P : A → Type 0) (l m : List A) → All P (l ++ m) → All P m
+  All-right P [] m p = p
+  All-right P (a ∷ l) m p = All-right P l m (p .1)
+
+  pub All-and : (P Q : A → Type 0) (l : List A) → All P l → All Q l → All (λ a. P a × Q a) l
+  All-and P Q [] p r = tt
+  All-and P Q (a ∷ l) p r = ((p .0, r .0), All-and P Q l (p .1) (r .1))
+
+  -- by the index
+  pub All-at : (P : A → Type 0) (l : List A) (d : A) → All P l → (i : ℕ) → i < length l → P (getD l i d)
+  All-at P [] d p i h = absurd (omega arith)
+  All-at P (a ∷ l) d p zero h = p .0
+  All-at P (a ∷ l) d p (suc i) h = All-at P l d (p .1) i (omega arith)
+
+  pub at-All : (P : A → Type 0) (l : List A) (d : A) → ((i : ℕ) → i < length l → P (getD l i d)) → All P l
+  at-All P [] d h = tt
+  at-All P (a ∷ l) d h = (h 0 (omega arith), at-All P l d (λ i less. h (suc i) (omega arith)))
+
+  -- ---- tests of all and of any
+
+  pub all-true : (q : A → Bool) (l : List A) → all q l ≡ true → All (λ a. q a ≡ true) l
+  all-true q [] h = tt
+  all-true q (a ∷ l) h = (and-left (q a) (all q l) h, all-true q l (and-right (q a) (all q l) h))
+
+  pub true-all : (q : A → Bool) (l : List A) → All (λ a. q a ≡ true) l → all q l ≡ true
+  true-all q [] p = refl
+  true-all q (a ∷ l) p = rw (p .0) (true-all q l (p .1))
+
+  pub any-false : (q : A → Bool) (l : List A) → any q l ≡ false → All (λ a. q a ≡ false) l
+  any-false q [] = λ h. tt
+  any-false q (a ∷ l) = byTest (q a) (λ g. rw g (λ h. never h)) (λ g. rw g (λ h. (refl, any-false q l h)))
+
+  -- none passes the test where the selection is empty
+  pub any-none : (q : A → Bool) (l : List A) → length (select q l) ≡ 0 → any q l ≡ false
+  any-none q [] = λ h. refl
+  any-none q (a ∷ l) = byTest (q a) (λ g. rw g (λ h. absurd (omega arith))) (λ g. rw g (λ h. any-none q l h))
+
+  pub select-none : (q : A → Bool) (l : List A) → All (λ a. q a ≡ false) l → length (select q l) ≡ 0
+  select-none q [] p = refl
+  select-none q (a ∷ l) p = rw (p .0) (select-none q l (p .1))
+
+  pub select-every : (q : A → Bool) (l : List A) → All (λ a. q a ≡ true) l → length (select q l) ≡ length l
+  select-every q [] p = refl
+  select-every q (a ∷ l) p = rw (p .0, select-every q l (p .1))
+
+  -- of a list of which the test leaves something, an element passes it
+  pub passing : (P : A → Type 0) (q : A → Bool) (l : List A) → All P l → 0 < length (select q l) → (a : A) × P a × (q a ≡ true)
+  passing P q [] = λ p h. absurd (omega arith)
+  passing P q (a ∷ l) = byTest (q a) (λ g. λ p h. (a, p .0, g)) (λ g. rw g (λ p h. passing P q l (p .1) h))
+
+  -- of a list of which the test leaves nothing, an element fails it
+  pub failing : (P : A → Type 0) (q : A → Bool) (l : List A) → All P l → 0 < length l → length (select q l) ≡ 0
+      → (a : A) × P a × (q a ≡ false)
+  failing P q [] = λ p h n. absurd (omega arith)
+  failing P q (a ∷ l) = λ p h. byTest (q a) (λ g. rw g (λ n. absurd (omega arith))) (λ g. λ n. (a, p .0, g))
+
+  -- tests that agree on every element select the same
+  pub select-agree : (q r : A → Bool) (l : List A) → All (λ a. q a ≡ r a) l → select q l ≡ select r l
+  select-agree q r [] p = refl
+  select-agree q r (a ∷ l) p = rw (p .0, select-agree q r l (p .1))
+
+  pub empty-append : (l m : List A) → empty (l ++ m) ≡ true → (length l ≡ 0) × (length m ≡ 0)
+  empty-append [] [] h = (refl, refl)
+  empty-append [] (a ∷ m) h = (refl, cc)
+  empty-append (a ∷ l) m h = (cc, cc)
+
+  pub nil : (l : List A) → length l ≡ 0 → l ≡ []
+  nil [] h = refl
+  nil (a ∷ l) h = absurd (omega arith)
 
   pub Rising-select : (R : A → A → Type 0) (q : A → Bool) (l : List A) → Rising R l → Rising R (select q l)
   Rising-select R q [] r = tt

@@ -22,17 +22,23 @@ add-number-at c = search needs
 number-at-requires : tie.Need-number-at-requires
 number-at-requires c κs = search needs
 
-add-load-proof : tie.Need-add-load-proof
-add-load-proof c = search needs
+add-load-stamp : tie.Need-add-load-stamp
+add-load-stamp c = search needs
 
-load-proof-requires : tie.Need-load-proof-requires
-load-proof-requires c κs = search needs
+load-stamp-requires : tie.Need-load-stamp-requires
+load-stamp-requires c κs = search needs
 
-add-load-ping : tie.Need-add-load-ping
-add-load-ping c = search needs
+proof-of-requires : tie.Need-proof-of-requires
+proof-of-requires c κs = search needs
 
-load-ping-requires : tie.Need-load-ping-requires
-load-ping-requires c κs = search needs
+add-load-stamp-2 : tie.Need-add-load-stamp-2
+add-load-stamp-2 c = search needs
+
+load-stamp-requires-2 : tie.Need-load-stamp-requires-2
+load-stamp-requires-2 c κs = search needs
+
+ping-of-requires : tie.Need-ping-of-requires
+ping-of-requires c κs = search needs
 
 slice-aggregate-get-bytes-2 : tie.Need-slice-aggregate-get-bytes-2
 slice-aggregate-get-bytes-2 c = search needs
@@ -45,18 +51,19 @@ get-bytes-requires-2 c κs = search needs
 
 returns : tie.Need-returns
 returns c =
-    let at-load-ping = c .before .before .before in
-    let at-load-proof = at-load-ping .before in
-    let at-number = at-load-proof .before in
-    let at-load-endpoint = at-number .before in
-    let at-get-bytes = at-load-endpoint .before .before in
+    let at-load-stamp-2 = c .before .before .before .before in
+    let at-load-stamp = at-load-stamp-2 .before .before in
+    let at-number = at-load-stamp .before in
+    let at-get-bytes = at-number .before .before .before in
     let args = at-get-bytes .before .before .before .args in
     loaded-entry (args .bytes .now) (args .at)
     (at-get-bytes .get-bytes .ensures)
-    (at-load-endpoint .load-endpoint .ensures)
+    (at-number .before .load-endpoint .ensures)
     (at-number .number-at .ensures)
-    (at-load-proof .load-proof .ensures)
-    (at-load-ping .load-ping .ensures)
+    (at-load-stamp .load-stamp .ensures)
+    (at-load-stamp-2 .before .proof-of .ensures)
+    (at-load-stamp-2 .load-stamp2 .ensures)
+    (c .before .before .before .ping-of .ensures)
     (c .before .get-bytes2 .ensures)
 
 pub load-entry-spec : {M : Type 1} → statement M
@@ -69,10 +76,12 @@ load-entry-spec =
     load-endpoint-requires
     add-number-at
     number-at-requires
-    add-load-proof
-    load-proof-requires
-    add-load-ping
-    load-ping-requires
+    add-load-stamp
+    load-stamp-requires
+    proof-of-requires
+    add-load-stamp-2
+    load-stamp-requires-2
+    ping-of-requires
     slice-aggregate-get-bytes-2
     add-get-bytes
     get-bytes-requires-2

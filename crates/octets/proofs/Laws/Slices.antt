@@ -1,12 +1,18 @@
 -- Laws of what slices keep: parts of them, and what is written into them. Assumes nothing.
-use mathlib.Core.Path.{_≡_, refl}
+use mathlib.Core.Path.{_≡_}
 use mathlib.Core.List.{[], _∷_, _++_}
-use Prim.Native.Nat.{ℕ, zero, suc, _+_, _<_}
+use Prim.Native.Nat.{ℕ, zero, suc, _+_, _^_, _<_}
 use native.Mathlib.Decide.{decLt}
 use native.Mathlib.Omega.{arith}
+use mir.Syntax.{w8}
+use mir.Val.{Fits}
 use lib.ListN.{length, take, drop, getD, length-take, length-drop, List·getD-eq-default}
 use lib.Seq.{getD-take, getD-drop}
 use Rattle.octets.specs.Octets.{Bytes, IsBytes, Slice, part}
+
+-- what a function knows of a slice s that it was lent, in its proof: slice s (c .shared-slice-known .given) (omega arith)
+pub slice : (s : Bytes) → ((i : ℕ) → Fits w8 (getD s i 0)) → length s < 2 ^ 63 → Slice s
+slice s known room = record { bytes = λ i. known i .fits; size = room }
 
 pub bytes-drop : (n : ℕ) (s : Bytes) → IsBytes s → IsBytes (drop n s)
 bytes-drop n s h i = rw getD-drop (h (n + i))

@@ -1,8 +1,8 @@
 -- An integer's bytes read as that integer, and what reads as an integer is its bytes. Assumes nothing.
-use Prim.Native.Nat.{ℕ, _^_, _≤_, _<_}
+use Prim.Native.Nat.{ℕ, _^_, _<_}
 use mathlib.Core.Path.{_≡_, sym, ap, _∙_}
 use mathlib.Core.Logic.{_≢_}
-use mathlib.Core.Bool.{Bool, true, false, cond}
+use mathlib.Core.Bool.{false}
 use mathlib.Core.List.{[], _∷_}
 use native.Mathlib.Decide.{decLt}
 use native.Mathlib.Omega.{arith}
@@ -12,7 +12,7 @@ use Rattle.octets.specs.Octets.{Bytes, Slice, number}
 use Rattle.rlp.specs.Numbers.{uintBytes}
 use Rattle.rlp.specs.Reading.{leadingZero, uintOf}
 use Rattle.rlp.specs.declared.Uint.{Uint}
-use Rattle.rlp.specs.declared.Uint.the-variants.{Value, NotAnInteger}
+use Rattle.rlp.specs.declared.Uint.the-variants.{Value}
 use Rattle.rlp.proofs.Cases.{by-cases, by-ltb}
 use Rattle.rlp.proofs.Numbers.{uint-bound, uint-number, uint-zero, uint-lead, number-uint}
 use Rattle.rlp.proofs.Reading.{uint-value, no-leading-zero}

@@ -1,11 +1,11 @@
 -- A payload is whole exactly if it is the encodings of items, and then it has that many, each where its offset says. Assumes nothing.
 use Prim.Native.Nat.{ℕ, zero, suc, _+_, _^_, _≤_, _<_}
 use mathlib.Core.Path.{_≡_, refl, sym, ap, subst, _∙_}
-use mathlib.Core.Bool.{Bool, true, false, false≢true}
+use mathlib.Core.Bool.{true, false, false≢true}
 use mathlib.Core.List.{List, [], _∷_, _++_}
 use native.Mathlib.Omega.{arith}
 use lib.ListN.{length, getD, drop, length-append, length-drop, drop-of-length-le}
-use lib.Seq.{drop-drop, drop-nil, drop-cons}
+use lib.Seq.{drop-drop, drop-cons}
 use Rattle.octets.specs.Octets.{Bytes, Slice, part}
 use Rattle.octets.proofs.Laws.{slice-drop}
 use Rattle.rlp.specs.Encoding.{encode, encodes, itemOf, isList, payloadOf, prefix, Small}

@@ -17,7 +17,7 @@ use Rattle.rlp.specs.Encoding as rlp
 use Rattle.rlp.specs.Reading.{long, sized, strict, head}
 use Rattle.rlp.specs.declared.Header.{Header}
 use Rattle.rlp.specs.declared.Header.the-variants.{Item}
-use Rattle.rlp.proofs.Cases.{by-cases, by-eqb, by-ltb}
+use Rattle.rlp.proofs.Cases.{by-cases, by-eqb}
 use Rattle.rlp.proofs.Numbers.{uint-bound, uint-number, uint-lead}
 use Rattle.rlp.proofs.Writing.{header-short, header-long, encode-plain}
 

@@ -1,14 +1,14 @@
 -- What is read was written: a header that is read stands before that item's encoding. Assumes nothing.
-use Prim.Native.Nat.{ℕ, zero, suc, _+_, _-_, _≤_, _<_}
+use Prim.Native.Nat.{ℕ, suc, _+_, _-_, _≤_, _<_}
 use mathlib.Core.Path.{_≡_, refl, sym, ap, subst, _∙_}
 use mathlib.Core.Logic.{_≢_}
 use mathlib.Core.Bool.{Bool, true, false}
 use mathlib.Core.List.{[], _∷_, _++_, append-assoc}
 use native.Mathlib.Nat.{add-zero}
 use native.Mathlib.Omega.{arith}
-use borrow.Author.Tests.{le-ltb, ltb-true, ltb-false}
+use borrow.Author.Tests.{ltb-true, ltb-false}
 use lib.Dec.{ltb}
-use lib.ListN.{length, getD, take, drop, length-drop, take-append-drop}
+use lib.ListN.{length, getD, take, drop, take-append-drop}
 use lib.Seq.{length-take-le, drop-drop, getD-take}
 use Rattle.octets.specs.Octets.{Bytes, IsBytes, Slice, part, number}
 use Rattle.octets.proofs.Laws.{bytes-take, length-part, getD-part}
@@ -19,7 +19,7 @@ use Rattle.rlp.specs.declared.Header.{Header}
 use Rattle.rlp.specs.declared.Header.the-variants.{Item, Broken}
 use Rattle.rlp.proofs.Cases.{by-leb, by-ltb, by-eqb}
 use Rattle.rlp.proofs.Numbers.{number-uint}
-use Rattle.rlp.proofs.Writing.{header-short, header-long, plain-not, encode-plain}
+use Rattle.rlp.proofs.Writing.{header-short, header-long, plain-not}
 use Rattle.rlp.proofs.Encoding.Reads.{head-low, head-middle, head-high}
 
 -- the payload behind its header of the kind of base, and what follows, are s; a payload of one byte has a header of one

@@ -1,6 +1,6 @@
 -- `rlp::uint_len` meets its contract. The invariant: k bytes are counted, and those of v are to come. Assumes nothing.
 use Prim.Native.Nat.{_+_}
-use mathlib.Core.Path.{_≡_, sym, _∙_}
+use mathlib.Core.Path.{_≡_}
 use native.Mathlib.Nat.{zero-add}
 use native.Mathlib.Omega.{arith}
 use Rattle.rlp.specs.Numbers.{width}

@@ -1,14 +1,13 @@
 -- `rlp::write_string` meets its contract. Assumes nothing.
-use Prim.Native.Nat.{ℕ, _+_, _≤_}
+use Prim.Native.Nat.{_+_}
 use mathlib.Core.List.{_++_}
 use mathlib.Core.Logic.{⊎-elim}
-use mathlib.Core.Path.{_≡_, refl, sym, ap, _∙_}
+use mathlib.Core.Path.{_≡_, refl, ap}
 use native.Mathlib.Omega.{arith}
 use borrow.Author.Needs.{needs}
 use lib.ListN.{length, getD, length-append}
-use Rattle.octets.specs.Octets.{Bytes, store}
 use Rattle.rlp.specs.Encoding.{header, encode, string}
-use Rattle.rlp.proofs.Writing.{encode-one, encode-framed, Wrote, wrote-one, wrote-append}
+use Rattle.rlp.proofs.Writing.{encode-one, encode-framed, wrote-one, wrote-append}
 use Rattle.rlp.proofs.write_string.Statement.{statement}
 use Rattle.rlp.proofs.write_string.Tie as tie
 

@@ -1,0 +1,11 @@
+pub mod Keys
+pub mod Promotion
+pub mod Every
+pub mod Sound
+pub mod Kept
+pub mod View
+pub mod Endpoint
+pub mod BothSides
+pub mod ByteForm
+pub mod Exact
+pub mod Values

@@ -1,0 +1,199 @@
+-- A sound bucket as a record of facts, and that the test `keepsRules`, with the two bounds, is exactly that.
+use Prim.Native.Nat.{ℕ, _+_, _<_, _≤_}
+use mathlib.Core.Path.{_≡_, refl}
+use mathlib.Core.Logic.{_⊎_}
+use mathlib.Core.Bool.{Bool, true, false, not, _&&_, _||_}
+use mathlib.Core.List.{List, [], _∷_, _++_}
+use native.Mathlib.Omega.{arith}
+use borrow.Author.Tests.{leb-true, le-leb, ltb-true, ltb-false, eq-eqb, ne-eqb, not-true}
+use lib.Dec.{leb, ltb}
+use lib.ListN.{length, length-append}
+use Rattle.octets.specs.Octets.{Bytes}
+use Rattle.octets.proofs.Laws.{same-eq, same-refl}
+use Rattle.lists.specs.Lists.{any, all, All}
+use Rattle.lists.proofs.Laws.{byTest, and-left, and-right, select-append, select-none, any-false, any-none, all-true, true-all, All-imp, All-append, All-left, All-right, All-and}
+use Rattle.entry.specs.declared.Entry.{Entry}
+use Rattle.entry.specs.declared.EndpointProof.{EndpointProof}
+use Rattle.entry.specs.declared.EndpointProof.the-variants.{Unproved, At}
+use Rattle.entry.specs.declared.PingState.{PingState}
+use Rattle.entry.specs.declared.PingState.the-variants.{Quiet, Out}
+use Rattle.bucket_model.specs.Contents.{Contents}
+use Rattle.bucket_model.specs.Rules.{maxEntries, maxReplacements, isOf, ofKey, isProved, isOut}
+use Rattle.bucket_model.specs.Sound.{proofBy, pingBy, inTime, addressForm, entrySound, mayWait, distinct, isFull, keepsRules}
+
+-- an address of 4 or 16 bytes
+abbrev pub IsAddress : Bytes → Type 0
+IsAddress address = (length address ≡ 4) ⊎ (length address ≡ 16)
+
+abbrev pub ProofBy : ℕ → EndpointProof → Type 0
+ProofBy clock Unproved = Unit {0}
+ProofBy clock (At t) = t .0 ≤ clock
+
+abbrev pub PingBy : ℕ → PingState → Type 0
+PingBy clock Quiet = Unit {0}
+PingBy clock (Out t) = t .0 ≤ clock
+
+-- the key belongs to this bucket, no time is above the clock, and unused bytes of the address are zero
+pub record EntrySound (home : Bytes → Bool) (clock : ℕ) (p : Entry) : Type 0 where
+  pub at-home : home (p .key) ≡ true
+  pub seen-by : p .seen .0 ≤ clock
+  pub proof-by : ProofBy clock (p .proof)
+  pub ping-by : PingBy clock (p .ping)
+  pub address-form : addressForm (p .endpoint) ≡ true
+
+pub record BucketSound (home : Bytes → Bool) (clock : ℕ) (m : Contents) : Type 0 where
+  pub entries-sound : All (EntrySound home clock) (m .entries)
+  pub replacements-sound : All (EntrySound home clock) (m .replacements)
+  -- no node stands in it twice
+  pub once : (key : Bytes) → length (ofKey key (m .entries)) + length (ofKey key (m .replacements)) ≤ 1
+  pub entries-bound : length (m .entries) ≤ maxEntries
+  pub replacements-bound : length (m .replacements) ≤ maxReplacements
+  pub entries-proved : All (λ p. isProved (p .proof) ≡ true) (m .entries)
+  pub unproved-pinged : All (λ p. (isProved (p .proof) || isOut (p .ping)) ≡ true) (m .replacements)
+  -- proved replacements only where every entry is taken
+  pub full : length (m .entries) < maxEntries → All (λ p. isProved (p .proof) ≡ false) (m .replacements)
+
+-- ---- one entry
+
+proof-by-test : (clock : ℕ) (pr : EndpointProof) → proofBy clock pr ≡ true → ProofBy clock pr
+proof-by-test clock Unproved h = tt
+proof-by-test clock (At t) h = leb-true (t .0) clock h
+
+test-proof-by : (clock : ℕ) (pr : EndpointProof) → ProofBy clock pr → proofBy clock pr ≡ true
+test-proof-by clock Unproved h = refl
+test-proof-by clock (At t) h = le-leb (t .0) clock h
+
+ping-by-test : (clock : ℕ) (pi : PingState) → pingBy clock pi ≡ true → PingBy clock pi
+ping-by-test clock Quiet h = tt
+ping-by-test clock (Out t) h = leb-true (t .0) clock h
+
+test-ping-by : (clock : ℕ) (pi : PingState) → PingBy clock pi → pingBy clock pi ≡ true
+test-ping-by clock Quiet h = refl
+test-ping-by clock (Out t) h = le-leb (t .0) clock h
+
+module _ (home : Bytes → Bool) (clock : ℕ) where
+  entry-facts : (p : Entry) → entrySound home clock p ≡ true → EntrySound home clock p
+  unfolding entrySound
+  entry-facts p h =
+      let rest = and-right (home (p .key)) (inTime clock p && addressForm (p .endpoint)) h in
+      let times = and-left (inTime clock p) (addressForm (p .endpoint)) rest in
+      let seen = leb (p .seen .0) clock in
+      let stamps = and-right seen (proofBy clock (p .proof) && pingBy clock (p .ping)) times in
+      record {
+        at-home = and-left (home (p .key)) (inTime clock p && addressForm (p .endpoint)) h;
+        seen-by = leb-true (p .seen .0) clock (and-left seen (proofBy clock (p .proof) && pingBy clock (p .ping)) times);
+        proof-by = proof-by-test clock (p .proof) (and-left (proofBy clock (p .proof)) (pingBy clock (p .ping)) stamps);
+        ping-by = ping-by-test clock (p .ping) (and-right (proofBy clock (p .proof)) (pingBy clock (p .ping)) stamps);
+        address-form = and-right (inTime clock p) (addressForm (p .endpoint)) rest;
+      }
+
+  entry-test : (p : Entry) → EntrySound home clock p → entrySound home clock p ≡ true
+  unfolding entrySound
+  entry-test p s =
+      rw (
+        s .at-home,
+        le-leb (p .seen .0) clock (s .seen-by),
+        test-proof-by clock (p .proof) (s .proof-by),
+        test-ping-by clock (p .ping) (s .ping-by),
+        s .address-form,
+      )
+
+-- ---- distinct keys
+
+pub distinct-once : (l : List Entry) → distinct l ≡ true → (key : Bytes) → length (ofKey key l) ≤ 1
+unfolding distinct
+distinct-once [] h key = omega arith
+distinct-once (p ∷ l) h key =
+    let apart = not-true (any (isOf (p .key)) l) (and-left (not (any (isOf (p .key)) l)) (distinct l) h) in
+    byTest (isOf key p)
+    (λ g.
+    let is = same-eq key (p .key) g in
+    let none : length (ofKey key l) ≡ 0 = rw is (select-none (isOf (p .key)) l (any-false (isOf (p .key)) l apart)) in
+    rw g (omega arith))
+    (λ g. rw g (distinct-once l (and-right (not (any (isOf (p .key)) l)) (distinct l) h) key))
+
+pub once-distinct : (l : List Entry) → ((key : Bytes) → length (ofKey key l) ≤ 1) → distinct l ≡ true
+unfolding distinct
+once-distinct [] h = refl
+once-distinct (p ∷ l) h =
+    let self : length (p ∷ ofKey (p .key) l) ≤ 1 = rw (same-refl (p .key)) at (h (p .key)) in
+    rw (any-none (isOf (p .key)) l (omega arith))
+    (once-distinct l (λ key. byTest (isOf key p)
+    (λ g. let one : length (p ∷ ofKey key l) ≤ 1 = rw g at (h key) in omega arith)
+    (λ g. rw g at (h key))))
+
+-- ---- replacements
+
+may-pinged : (full : Bool) (p : Entry) → mayWait full p ≡ true → (isProved (p .proof) || isOut (p .ping)) ≡ true
+may-pinged full p = byTest (isProved (p .proof)) (λ g. rw g (λ h. refl)) (λ g. rw g (λ h. h))
+
+may-unproved : (p : Entry) → mayWait false p ≡ true → isProved (p .proof) ≡ false
+may-unproved p = byTest (isProved (p .proof)) (λ g. rw g (λ h. cc)) (λ g. λ h. g)
+
+pinged-may : (p : Entry) → (isProved (p .proof) || isOut (p .ping)) ≡ true → mayWait true p ≡ true
+pinged-may p = byTest (isProved (p .proof)) (λ g. rw g (λ h. refl)) (λ g. rw g (λ h. h))
+
+unproved-may : (p : Entry) → ((isProved (p .proof) || isOut (p .ping)) ≡ true) × (isProved (p .proof) ≡ false) → mayWait false p ≡ true
+unproved-may p h =
+    let out : (isProved (p .proof) || isOut (p .ping)) ≡ true = h .0 in
+    rw (h .1) (rw (h .1) at out)
+
+-- ---- a bucket
+
+module _ (home : Bytes → Bool) (clock : ℕ) (m : Contents) where
+  pub rules-sound : length (m .entries) ≤ maxEntries → length (m .replacements) ≤ maxReplacements → keepsRules home clock m ≡ true
+      → BucketSound home clock m
+  unfolding keepsRules
+  rules-sound few few′ h =
+      let l = m .entries ++ m .replacements in
+      let each = all (entrySound home clock) l in
+      let proved = all (λ p. isProved (p .proof)) (m .entries) in
+      let wait = all (mayWait (isFull m)) (m .replacements) in
+      let rest = and-right each (distinct l && (proved && wait)) h in
+      let rest′ = and-right (distinct l) (proved && wait) rest in
+      let sound : All (EntrySound home clock) l =
+      All-imp (λ p. entrySound home clock p ≡ true) (EntrySound home clock) (entry-facts home clock) l
+      (all-true (entrySound home clock) l (and-left each (distinct l && (proved && wait)) h)) in
+      let waits = all-true (mayWait (isFull m)) (m .replacements) (and-right proved wait rest′) in
+      record {
+        entries-sound = All-left (EntrySound home clock) (m .entries) (m .replacements) sound;
+        replacements-sound = All-right (EntrySound home clock) (m .entries) (m .replacements) sound;
+        once = λ key.
+            simp (select-append, length-append) at (distinct-once l (and-left (distinct l) (proved && wait) rest) key);
+        entries-bound = few;
+        replacements-bound = few′;
+        entries-proved = all-true (λ p. isProved (p .proof)) (m .entries) (and-left proved wait rest′);
+        unproved-pinged =
+            All-imp (λ p. mayWait (isFull m) p ≡ true) (λ p. (isProved (p .proof) || isOut (p .ping)) ≡ true) (may-pinged (isFull m))
+            (m .replacements) waits;
+        full = λ f.
+            let not-full : isFull m ≡ false = ne-eqb (length (m .entries)) maxEntries (λ e. omega arith) in
+            All-imp (λ p. mayWait false p ≡ true) (λ p. isProved (p .proof) ≡ false) may-unproved
+            (m .replacements) (rw not-full at waits);
+      }
+
+  pub sound-rules : BucketSound home clock m → keepsRules home clock m ≡ true
+  unfolding keepsRules
+  sound-rules s =
+      let l = m .entries ++ m .replacements in
+      rw (
+        true-all (entrySound home clock) l
+            (All-imp (EntrySound home clock) (λ p. entrySound home clock p ≡ true) (entry-test home clock) l
+            (All-append (EntrySound home clock) (m .entries) (m .replacements) (s .entries-sound) (s .replacements-sound))),
+        once-distinct l (λ key. simp (select-append, length-append) (s .once key)),
+        true-all (λ p. isProved (p .proof)) (m .entries) (s .entries-proved),
+      )
+      (byTest (ltb (length (m .entries)) maxEntries)
+      (λ g.
+      let less = ltb-true (length (m .entries)) maxEntries g in
+      rw (ne-eqb (length (m .entries)) maxEntries (λ e. omega arith))
+      (true-all (mayWait false) (m .replacements)
+      (All-imp (λ p. ((isProved (p .proof) || isOut (p .ping)) ≡ true) × (isProved (p .proof) ≡ false)) (λ p. mayWait false p ≡ true) unproved-may
+      (m .replacements)
+      (All-and (λ p. (isProved (p .proof) || isOut (p .ping)) ≡ true) (λ p. isProved (p .proof) ≡ false) (m .replacements)
+      (s .unproved-pinged) (s .full less)))))
+      (λ g.
+      rw (eq-eqb (length (m .entries)) maxEntries (omega (arith, s .entries-bound, ltb-false (length (m .entries)) maxEntries g)))
+      (true-all (mayWait true) (m .replacements)
+      (All-imp (λ p. (isProved (p .proof) || isOut (p .ping)) ≡ true) (λ p. mayWait true p ≡ true) pinged-may
+      (m .replacements) (s .unproved-pinged)))))

@@ -1,0 +1,24 @@
+-- The distance of two nodes and the bucket that it falls in (document 01, "Seats and the waiting line").
+use Prim.Native.Nat.{ℕ, _+_, _-_, _^_}
+use mathlib.Core.Bool.{Bool, _&&_}
+use lib.Bits.{bitXor}
+use lib.Count.{leadingZeros}
+use lib.Dec.{leb, ltb}
+use Rattle.octets.specs.Octets.{Bytes, number}
+use Rattle.keccak.specs.Sponge.{keccak256}
+
+-- "the XOR of the two keys' Keccak-256 hashes, as a big-endian number"
+unfoldable pub distance : Bytes → Bytes → ℕ
+distance a b = bitXor (number a) (number b)
+
+-- "Bucket i has 2^i ≤ distance < 2^(i+1)"
+unfoldable pub inBucket : ℕ → ℕ → Bool
+inBucket i d = leb (2 ^ i) d && ltb d (2 ^ (i + 1))
+
+-- the binary digits of a distance, none of them for 0
+unfoldable pub bitLength : ℕ → ℕ
+bitLength d = 256 - leadingZeros 256 d
+
+-- the key is in its own bucket: the one of that number in the table of the node with the hash `own`
+unfoldable pub home : Bytes → ℕ → Bytes → Bool
+home own i key = inBucket i (distance own (keccak256 key))

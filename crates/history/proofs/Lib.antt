@@ -1,0 +1,14 @@
+pub mod Distance
+pub mod Step
+pub mod Sound
+pub mod View
+pub mod Log
+pub mod Entry
+pub mod Isolated
+pub mod Order
+pub mod Stay
+pub mod Replacement
+pub mod Demand3
+pub mod Endpoint
+pub mod Chain
+pub mod Examples
