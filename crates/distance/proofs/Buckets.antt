@@ -7,17 +7,16 @@ use native.Mathlib.Numerals.{add-one}
 use native.Mathlib.Decide.{decLt}
 use native.Mathlib.Omega.{arith}
 use borrow.Author.Tests.{le-leb, lt-leb, lt-ltb, le-ltb, eq-eqb, ne-eqb, eqb-true, eqb-false}
-use lib.Count.{leadingZeros, leading-length, leading-le}
+use lib.Count.{leadingZeros, leading-length}
 use lib.Pow.{pow-add}
 use lib.Dec.{eqb, leb, ltb}
-use lib.Bits.{xor-lt}
 use lib.ListN.{length}
-use Rattle.octets.specs.Octets.{Bytes, IsBytes, number}
-use Rattle.octets.proofs.Laws.{numberFrom-less}
+use Rattle.octets.specs.Octets.{Bytes, IsBytes}
 use Rattle.lists.proofs.Laws.{byTest}
 use Rattle.keccak.specs.Sponge.{keccak256}
 use Rattle.keccak.proofs.Laws.{keccak256-length, keccak256-bytes}
 use Rattle.distance.specs.Distance.{distance, inBucket, bitLength, home}
+use Rattle.distance.proofs.Laws.{bitLength-most, distance-less}
 
 above : (i m : ℕ) → i ≤ m → 2 ^ i ≤ 2 ^ m
 above i m h = pow-le-pow-right (zero-lt-suc 1) h
@@ -57,19 +56,11 @@ bucket-unique i j d h p q =
 
 -- there are 256 buckets
 pub bucket-below : (i d : ℕ) → d < 2 ^ 256 → inBucket i d ≡ true → i < 256
-unfolding bitLength
 bucket-below i d h p =
     let e : bitLength d ≡ i + 1 = eqb-true _ _ (sym (inBucket-bits i d h) ∙ p) in
-    omega (arith, leading-le 256 d)
+    omega (arith, bitLength-most d)
 
 -- ---- the bucket of a key
-
-pub distance-less : (a b : Bytes) → length a ≡ 32 → length b ≡ 32 → IsBytes a → IsBytes b → distance a b < 2 ^ 256
-unfolding distance
-distance-less a b la lb ba bb =
-    let na : number a < 2 ^ 256 = rw la at (numberFrom-less a 0 0 (omega arith) ba) in
-    let nb : number b < 2 ^ 256 = rw lb at (numberFrom-less b 0 0 (omega arith) bb) in
-    xor-lt 256 (number a) (number b) na nb
 
 pub home-bits : (own key : Bytes) (i : ℕ) → length own ≡ 32 → IsBytes own
     → home own i key ≡ eqb (bitLength (distance own (keccak256 key))) (i + 1)

@@ -5,12 +5,12 @@ use Prim.Native.Nat.{ℕ, zero, suc, _+_, _-_, _*_, _^_, _≤_, _<_}
 use native.Mathlib.Nat.{pow-suc, zero-add, zero-mul}
 use native.Mathlib.Numerals.{add-one}
 use native.Mathlib.Omega.{arith}
-use lib.Bits.{bitXor, xor-block, xor-lt}
+use lib.Bits.{bitXor, xor-block, xor-lt, xor-add-and, and-le-l, and-le-r}
 use lib.Count.{leadingZeros, leading-of-zero, leading-top, leading-unique}
 use lib.Pow.{pow-add}
 use lib.ListN.{length, getD}
-use Rattle.octets.specs.Octets.{Bytes, IsBytes, part, numberFrom, number}
-use Rattle.octets.proofs.Laws.{number-next, part-all}
+use Rattle.octets.specs.Octets.{Bytes, IsBytes, part, numberFrom, number, bigEndian}
+use Rattle.octets.proofs.Laws.{number-next, part-all, numberFrom-less, bigEndian-number}
 use Rattle.distance.specs.Distance.{distance, bitLength}
 
 -- j is the place of d's highest binary digit
@@ -28,6 +28,17 @@ pub bitLength-zero : bitLength 0 ≡ 0
 unfolding bitLength
 bitLength-zero = rw leading-of-zero refl
 
+pub bitLength-positive : (d : ℕ) → 0 < d → d < 2 ^ 256 → 0 < bitLength d
+unfolding bitLength
+bitLength-positive d h g = omega (arith, leading-top 256 d h g .1)
+
+pub bitLength-most : (d : ℕ) → bitLength d ≤ 256
+unfolding bitLength
+bitLength-most d = omega arith
+
+xor-equal : (x y : ℕ) → bitXor x y ≡ 0 → x ≡ y
+xor-equal x y h = omega (arith, xor-add-and x y, and-le-l x y, and-le-r x y)
+
 -- the distance of the first i bytes
 abbrev pub upTo : Bytes → Bytes → ℕ → ℕ
 upTo a b i = distance (part a 0 i) (part b 0 i)
@@ -37,6 +48,22 @@ unfolding distance part numberFrom
 none a b = refl
 
 module _ (a b : Bytes) (la : length a ≡ 32) (lb : length b ≡ 32) (ba : IsBytes a) (bb : IsBytes b) where
+  pub distance-less : distance a b < 2 ^ 256
+  unfolding distance
+  distance-less =
+      let na : number a < 2 ^ 256 = rw la at (numberFrom-less a 0 0 (omega arith) ba) in
+      let nb : number b < 2 ^ 256 = rw lb at (numberFrom-less b 0 0 (omega arith) bb) in
+      xor-lt 256 (number a) (number b) na nb
+
+  -- only equal hashes have the distance 0
+  pub distance-zero : distance a b ≡ 0 → a ≡ b
+  unfolding distance
+  distance-zero h =
+      let same : number a ≡ number b = xor-equal (number a) (number b) h in
+      let from-a : bigEndian 32 (number a) ≡ a = rw la at (bigEndian-number a ba) in
+      let from-b : bigEndian 32 (number b) ≡ b = rw lb at (bigEndian-number b bb) in
+      cc
+
   -- one byte more
   pub upTo-next : (i : ℕ) → i < 32 → upTo a b (i + 1) ≡ upTo a b i * 256 + bitXor (getD a i 0) (getD b i 0)
   unfolding distance

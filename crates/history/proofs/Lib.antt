@@ -1,4 +1,3 @@
-pub mod Distance
 pub mod Step
 pub mod Sound
 pub mod View

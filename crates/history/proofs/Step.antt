@@ -20,8 +20,8 @@ use Rattle.distance.specs.Distance.{bitLength, home}
 use Rattle.history.specs.Model.{Env, Lawful, Reading, refused, ping, pong, other, Call, datagram, pingSent, sweep, Table, isOwn, isAddress, distanceTo, bucketNumber, firstKept, isKept, slot, homeAt, fresh, bucketAt, bucketOf, packetRefusals, datagramRefusals, pingSentRefusals, answer, Accepted, onDatagram, effect, next}
 use Rattle.history.specs.Keccak.{withKeccak}
 use Rattle.history.specs.Words.{isPong}
+use Rattle.distance.proofs.Laws.{distance-less, distance-zero, bitLength-positive, bitLength-most}
 use Rattle.distance.proofs.Buckets.{inBucket-bits}
-use Rattle.history.proofs.Distance.{distance-less, distance-zero, bits-positive, bits-most}
 
 -- ---- by cases
 
@@ -73,7 +73,7 @@ module _ (e : Env) where
     slot-home not-own is-kept =
         let d = distanceTo e key in
         let apart-is = apart not-own in
-        let bits = bits-positive d (omega arith) less in
+        let bits = bitLength-positive d (omega arith) less in
         let kept = leb-true (firstKept e) (bucketNumber e key) is-kept in
         inBucket-bits (firstKept e + slot e key) d less
         ∙ eq-eqb (bitLength d) (firstKept e + slot e key + 1) (omega arith)
@@ -82,7 +82,7 @@ module _ (e : Env) where
   unfolding bucketNumber
   slot-less key is-kept =
       let kept = leb-true (firstKept e) (bucketNumber e key) is-kept in
-      omega (arith, bits-most (distanceTo e key))
+      omega (arith, bitLength-most (distanceTo e key))
 
   -- ---- what an accepted call has passed
 

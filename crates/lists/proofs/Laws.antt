@@ -5,7 +5,7 @@ use mathlib.Core.Bool.{Bool, true, false, cond, not, _&&_}
 use mathlib.Core.List.{List, [], _∷_, _++_, map}
 use native.Mathlib.Omega.{arith}
 use lib.Dec.{ltb}
-use lib.ListN.{length, getD}
+use lib.ListN.{length, getD, set}
 use Rattle.lists.specs.Lists.{first, select, any, all, empty, before, modify, All, Rising}
 
 -- a proof by the two outcomes of a test, each with the equation to rewrite by
@@ -200,6 +200,12 @@ module _ {A : Type 0} where
   getD-modify-other zero (suc j) f (a ∷ l) d h = refl
   getD-modify-other (suc i) zero f (a ∷ l) d h = refl
   getD-modify-other (suc i) (suc j) f (a ∷ l) d h = getD-modify-other i j f l d (λ g. h (ap suc g))
+
+  -- the element stored over the one at an index
+  pub set-modify : (i : ℕ) (f : A → A) (l : List A) (d : A) → i < length l → set l i (f (getD l i d)) ≡ modify i f l
+  set-modify i f [] d h = absurd (omega arith)
+  set-modify zero f (a ∷ l) d h = refl
+  set-modify (suc i) f (a ∷ l) d h = ap (λ m. a ∷ m) (set-modify i f l d (omega arith))
 
   pub getD-map : (f : A → A) (l : List A) (i : ℕ) (d : A) → i < length l → getD (map f l) i d ≡ f (getD l i d)
   getD-map f [] i d h = absurd (omega arith)

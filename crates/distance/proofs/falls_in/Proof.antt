@@ -2,7 +2,8 @@
 use Prim.Native.Nat.{_^_, _<_}
 use borrow.Author.Needs.{needs}
 use Rattle.distance.specs.Distance.{distance}
-use Rattle.distance.proofs.Buckets.{distance-less, nowhere, somewhere}
+use Rattle.distance.proofs.Laws.{distance-less}
+use Rattle.distance.proofs.Buckets.{nowhere, somewhere}
 use Rattle.distance.proofs.falls_in.Statement.{statement}
 use Rattle.distance.proofs.falls_in.Tie as tie
 

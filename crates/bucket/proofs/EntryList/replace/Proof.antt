@@ -1,0 +1,20 @@
+-- `bucket::EntryList::replace` meets its contract. Assumes nothing.
+use Rattle.bucket.proofs.Laws.{length-mapped, replace-holds}
+use native.Mathlib.Omega.{arith}
+use borrow.Author.Needs.{needs}
+use Rattle.bucket.proofs.EntryList.replace.Statement.{statement}
+use Rattle.bucket.proofs.EntryList.replace.Tie as tie
+use Rattle.bucket.proofs.EntryList.replace.Reads as reads
+use Rattle.bucket.proofs.EntryList.replace.Lts as lts
+
+mul-e : tie.Need-mul-e
+mul-e c = search needs
+
+element-set-from-e : tie.Need-element-set-from-e
+element-set-from-e c = search needs
+
+returns : tie.Need-returns
+returns c = replace-holds (c .args .self) (c .args .i) (c .args .e) (search (needs, length-mapped)) (omega arith) (omega arith)
+
+pub replace-spec : {M : Type 1} → statement M
+replace-spec = tie.close (tie.spec mul-e element-set-from-e returns)

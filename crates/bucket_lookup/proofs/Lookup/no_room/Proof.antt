@@ -1,0 +1,22 @@
+-- `bucket_lookup::Lookup::no_room` meets its contract. Assumes nothing.
+use lib.Dec.{leb}
+use Rattle.bucket_lookup.proofs.Laws.{room}
+use borrow.Author.Needs.{needs}
+use Rattle.bucket_lookup.proofs.Lookup.no_room.Statement.{statement}
+use Rattle.bucket_lookup.proofs.Lookup.no_room.Tie as tie
+use Rattle.bucket_lookup.proofs.Lookup.no_room.Reads as reads
+use Rattle.bucket_lookup.proofs.Lookup.no_room.Lts as lts
+use Rattle.bucket_lookup.proofs.Lookup.is_held.Reads as is-held-reads
+use Rattle.entry_rules.proofs.both.Reads as both-reads
+
+is-held-requires : tie.Need-is-held-requires
+is-held-requires c κs = search needs
+
+both-requires : tie.Need-both-requires
+both-requires c κs = search needs
+
+returns : tie.Need-returns
+returns c = room (c .before .before .args .self) (leb 4 (c .before .before .args .replacements)) (c .before .is-held .ensures) (c .both .ensures)
+
+pub no-room-spec : {M : Type 1} → statement M
+no-room-spec = tie.close (tie.spec is-held-requires both-requires returns)

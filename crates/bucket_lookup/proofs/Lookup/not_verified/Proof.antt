@@ -1,0 +1,29 @@
+-- `bucket_lookup::Lookup::not_verified` meets its contract. Assumes nothing.
+use mathlib.Core.Path.{ap}
+use mathlib.Core.Bool.{not}
+use Rattle.bucket_model.specs.Rules.{isVerified}
+use Rattle.bucket_lookup.proofs.Laws.{any-found}
+use borrow.Author.Needs.{needs}
+use Rattle.bucket_lookup.proofs.Lookup.not_verified.Statement.{statement}
+use Rattle.bucket_lookup.proofs.Lookup.not_verified.Tie as tie
+use Rattle.bucket_lookup.proofs.Lookup.not_verified.Reads as reads
+use Rattle.bucket_lookup.proofs.Lookup.not_verified.Lts as lts
+use Rattle.bucket_lookup.proofs.Lookup.is_held.Reads as is-held-reads
+use Rattle.entry_rules.proofs.both.Reads as both-reads
+use Rattle.entry_rules.proofs.is_verified.Reads as is-verified-reads
+
+is-held-requires : tie.Need-is-held-requires
+is-held-requires c κs = search needs
+
+is-verified-requires : tie.Need-is-verified-requires
+is-verified-requires c κs = search needs
+
+both-requires : tie.Need-both-requires
+both-requires c κs = search needs
+
+returns : tie.Need-returns
+returns c = ap not (any-found (isVerified (c .before .before .before .before .before .args .clock .0) (c .before .before .before .before .before .args .address .now) (c .before .before .before .before .before .args .udp)) (c .before .before .before .before .before .args .self) (c .before .before .is-held .ensures) (c .before .is-verified .ensures) (c .both .ensures))
+
+pub not-verified-spec : {M : Type 1} → statement M
+not-verified-spec =
+    tie.close (tie.spec is-held-requires is-verified-requires both-requires returns)

@@ -1,0 +1,2 @@
+pub mod ByPosition
+pub mod Laws

@@ -1,0 +1,31 @@
+-- `bucket_rules::heard` meets its contract. Assumes nothing.
+use Rattle.bucket.specs.Values.{contents}
+use Rattle.bucket_lookup.proofs.Laws.{within}
+use Rattle.bucket_rules.proofs.ByPosition.{heard-is}
+use borrow.Author.Needs.{needs}
+use Rattle.bucket_rules.proofs.heard.Statement.{statement}
+use Rattle.bucket_rules.proofs.heard.Tie as tie
+use Rattle.bucket_rules.proofs.heard.Reads as reads
+use Rattle.bucket_rules.proofs.heard.Lts as lts
+use Rattle.bucket_lookup.proofs.look_up.Reads as look-up-reads
+use Rattle.bucket_rules.proofs.tail_at.Reads as tail-at-reads
+use Rattle.entry_rules.proofs.heard.Reads as heard-reads
+
+look-up-requires : tie.Need-look-up-requires
+look-up-requires c κs = search needs
+
+heard-requires : tie.Need-heard-requires
+heard-requires c κs = search needs
+
+tail-at-requires : tie.Need-tail-at-requires
+tail-at-requires c κs = let start = c .before .before .before .before in
+    (start .pre .bounded, rw (c .before .before .look-up .ensures .position) (within (start .args .key .now) (contents (start .args .b)) (start .pre .keys)))
+
+returns : tie.Need-returns
+returns c = let start = c .before .before .before .before .before in
+    let args = start .args in
+    rw (heard-is (args .key .now) (contents (args .b)) (c .before .before .before .look-up .result) (args .clock .0) (start .pre .keys) (c .before .before .before .look-up .ensures), ← c .before .heard .ensures)
+    (c .tail-at .ensures)
+
+pub heard-spec : {M : Type 1} → statement M
+heard-spec = tie.close (tie.spec look-up-requires heard-requires tail-at-requires returns)

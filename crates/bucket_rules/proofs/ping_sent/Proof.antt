@@ -1,0 +1,70 @@
+-- `bucket_rules::ping_sent` meets its contract. Assumes nothing.
+use mathlib.Core.Path.{sym, _∙_}
+use Rattle.bucket.specs.Values.{contents}
+use Rattle.bucket_lookup.proofs.Laws.{within}
+use Rattle.bucket_rules.proofs.ByPosition.{pinged-is, new-is}
+use borrow.Author.Needs.{needs}
+use Rattle.bucket_rules.proofs.ping_sent.Statement.{statement}
+use Rattle.bucket_rules.proofs.ping_sent.Tie as tie
+use Rattle.bucket_rules.proofs.ping_sent.Reads as reads
+use Rattle.bucket_rules.proofs.ping_sent.Lts as lts
+use Rattle.bucket_lookup.proofs.Lookup.is_held.Reads as is-held-reads
+use Rattle.bucket_lookup.proofs.look_up.Reads as look-up-reads
+use Rattle.bucket_rules.proofs.join_line.Reads as join-line-reads
+use Rattle.bucket_rules.proofs.put_at.Reads as put-at-reads
+use Rattle.entry_rules.proofs.new_entry.Reads as new-entry-reads
+use Rattle.entry_rules.proofs.pinged.Reads as pinged-reads
+
+look-up-requires : tie.Need-look-up-requires
+look-up-requires c κs = search needs
+
+is-held-requires : tie.Need-is-held-requires
+is-held-requires c κs = search needs
+
+pinged-requires : tie.Need-pinged-requires
+pinged-requires c κs = search needs
+
+put-at-requires : tie.Need-put-at-requires
+put-at-requires c κs = let start = c .before .before .before .before .before .before .before .before in
+    (start .pre .0 .bounded, rw (c .before .before .before .before .look-up .ensures .position) (within (start .args .key .now) (contents (start .args .b)) (start .pre .0 .keys)))
+
+returns : tie.Need-returns
+returns c = let start = c .before .before .before .before .before .before .before .before .before in
+    let args = start .args in
+    let look = c .before .before .before .before .before .look-up in
+    rw (
+      pinged-is (args .key .now) (contents (args .b)) (look .result) (args .clock .0) (start .pre .0 .keys) (look .ensures) (args .address .now) (args .hash .now) (args .udp) (args .tcp)
+          (sym (c .before .before .before .before .is-held .ensures) ∙ c .before .before .before .if1 .taken),
+      ← c .before .pinged .ensures,
+    )
+    (c .put-at .ensures)
+
+new-entry-requires : tie.Need-new-entry-requires
+new-entry-requires c κs = search needs
+
+join-line-requires : tie.Need-join-line-requires
+join-line-requires c κs = search needs
+
+returns-2 : tie.Need-returns-2
+returns-2 c = let start = c .before .before .before .before .before .before .before .before in
+    let args = start .args in
+    let look = c .before .before .before .before .look-up in
+    rw (
+      new-is (args .key .now) (contents (args .b)) (look .result) (args .clock .0) (start .pre .0 .keys) (look .ensures) (args .address .now) (args .hash .now) (args .udp) (args .tcp)
+          (sym (c .before .before .before .is-held .ensures) ∙ c .before .before .if1 .left),
+      ← c .before .new-entry .ensures,
+    )
+    (c .join-line .ensures)
+
+pub ping-sent-spec : {M : Type 1} → statement M
+ping-sent-spec =
+    tie.close
+    (tie.spec
+    look-up-requires
+    is-held-requires
+    pinged-requires
+    put-at-requires
+    returns
+    new-entry-requires
+    join-line-requires
+    returns-2)

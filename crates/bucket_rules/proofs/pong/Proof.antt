@@ -1,0 +1,31 @@
+-- `bucket_rules::pong` meets its contract. Assumes nothing.
+use Rattle.bucket.specs.Values.{contents}
+use Rattle.bucket_lookup.proofs.Laws.{within}
+use Rattle.bucket_rules.proofs.ByPosition.{pong-is}
+use borrow.Author.Needs.{needs}
+use Rattle.bucket_rules.proofs.pong.Statement.{statement}
+use Rattle.bucket_rules.proofs.pong.Tie as tie
+use Rattle.bucket_rules.proofs.pong.Reads as reads
+use Rattle.bucket_rules.proofs.pong.Lts as lts
+use Rattle.bucket_lookup.proofs.look_up.Reads as look-up-reads
+use Rattle.bucket_rules.proofs.promote_at.Reads as promote-at-reads
+use Rattle.entry_rules.proofs.ponged.Reads as ponged-reads
+
+look-up-requires : tie.Need-look-up-requires
+look-up-requires c κs = search needs
+
+ponged-requires : tie.Need-ponged-requires
+ponged-requires c κs = search needs
+
+promote-at-requires : tie.Need-promote-at-requires
+promote-at-requires c κs = let start = c .before .before .before .before in
+    (start .pre .bounded, rw (c .before .before .look-up .ensures .position) (within (start .args .key .now) (contents (start .args .b)) (start .pre .keys)))
+
+returns : tie.Need-returns
+returns c = let start = c .before .before .before .before .before in
+    let args = start .args in
+    rw (pong-is (args .key .now) (contents (args .b)) (c .before .before .before .look-up .result) (args .clock .0) (start .pre .keys) (c .before .before .before .look-up .ensures), ← c .before .ponged .ensures)
+    (c .promote-at .ensures)
+
+pub pong-spec : {M : Type 1} → statement M
+pong-spec = tie.close (tie.spec look-up-requires ponged-requires promote-at-requires returns)

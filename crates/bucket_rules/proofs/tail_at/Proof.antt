@@ -1,0 +1,57 @@
+-- `bucket_rules::tail_at` meets its contract. Assumes nothing.
+use mathlib.Core.Path.{_≡_}
+use lib.ListN.{length}
+use Rattle.bucket.proofs.Laws.{length-mapped}
+use Rattle.bucket_lookup.proofs.Laws.{in-entries}
+use Rattle.bucket_rules.proofs.Laws.{unchanged}
+use borrow.Author.Needs.{needs}
+use Rattle.bucket_rules.proofs.tail_at.Statement.{statement}
+use Rattle.bucket_rules.proofs.tail_at.Tie as tie
+use Rattle.bucket_rules.proofs.tail_at.Reads as reads
+use Rattle.bucket_rules.proofs.tail_at.Lts as lts
+use Rattle.bucket_rules.proofs.put_at.Reads as put-at-reads
+use Rattle.bucket_rules.proofs.to_tail.Reads as to-tail-reads
+
+-- the type says how long the arrays are
+entries-size : (c : tie.Start) → length (c .args .b .entries .items) ≡ 16
+entries-size c = search (needs, length-mapped)
+
+replacements-size : (c : tie.Start) → length (c .args .b .replacements .items) ≡ 16
+replacements-size c = search (needs, length-mapped)
+
+enum-told : tie.Need-enum-told
+enum-told c = search needs
+
+enum-known-at : tie.Need-enum-known-at
+enum-known-at c = search needs
+
+to-tail-requires : tie.Need-to-tail-requires
+to-tail-requires c κs = (c .before .before .before .pre .0, in-entries (c .before .before .before .args .b) (entries-size (c .before .before .before)) (replacements-size (c .before .before .before)) (c .before .before .before .pre .0) (c .before .before .before .pre .1) (c .before .at .given .1))
+
+enum-told-2 : tie.Need-enum-told-2
+enum-told-2 c = search needs
+
+put-at-requires : tie.Need-put-at-requires
+put-at-requires c κs = search needs
+
+returns : tie.Need-returns
+returns c = rw (c .enum-told .given .1) (unchanged (c .before .before .args .b) (entries-size (c .before .before)) (replacements-size (c .before .before)) (c .before .before .pre .0))
+
+returns-2 : tie.Need-returns-2
+returns-2 c = rw (c .before .before .at .given .1) (c .to-tail .ensures)
+
+returns-3 : tie.Need-returns-3
+returns-3 c = rw (c .before .enum-told2 .given .1) (rw (c .before .enum-told2 .given .1) at (c .put-at .ensures))
+
+pub tail-at-spec : {M : Type 1} → statement M
+tail-at-spec =
+    tie.close
+    (tie.spec
+    enum-told
+    enum-known-at
+    to-tail-requires
+    enum-told-2
+    put-at-requires
+    returns
+    returns-2
+    returns-3)

@@ -1,0 +1,5 @@
+pub mod Form
+pub mod Step
+pub mod Demand3
+pub mod Numbers
+pub mod AnyBytes

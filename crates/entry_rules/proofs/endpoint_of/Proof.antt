@@ -1,0 +1,26 @@
+-- `entry_rules::endpoint_of` meets its contract. Assumes nothing.
+use Rattle.entry_rules.proofs.Laws.{endpoint-made}
+use borrow.Author.Needs.{needs}
+use Rattle.entry_rules.proofs.endpoint_of.Statement.{statement}
+use Rattle.entry_rules.proofs.endpoint_of.Tie as tie
+use Rattle.entry_rules.proofs.endpoint_of.Reads as reads
+use Rattle.entry_rules.proofs.endpoint_of.Lts as lts
+use Rattle.octets.proofs.put_bytes.Reads as put-bytes-reads
+
+slice-aggregate-put-bytes : tie.Need-slice-aggregate-put-bytes
+slice-aggregate-put-bytes c = search needs
+
+put-bytes-requires : tie.Need-put-bytes-requires
+put-bytes-requires c κs = search needs
+
+cast-t9 : tie.Need-cast-t9
+cast-t9 c = search needs
+
+returns : tie.Need-returns
+returns c = let start = c .before .before .before .before in
+    let args = start .args in
+    endpoint-made (args .address .now) (args .udp) (args .tcp) (start .pre) (c .before .put-bytes .ensures)
+
+pub endpoint-of-spec : {M : Type 1} → statement M
+endpoint-of-spec =
+    tie.close (tie.spec slice-aggregate-put-bytes put-bytes-requires cast-t9 returns)

@@ -1,0 +1,22 @@
+-- `entry_rules::is_at` meets its contract. Assumes nothing.
+use mathlib.Core.Path.{refl}
+use Rattle.entry_rules.proofs.Laws.{joined}
+use borrow.Author.Needs.{needs}
+use Rattle.entry_rules.proofs.is_at.Statement.{statement}
+use Rattle.entry_rules.proofs.is_at.Tie as tie
+use Rattle.entry_rules.proofs.is_at.Reads as reads
+use Rattle.entry_rules.proofs.is_at.Lts as lts
+use Rattle.entry_rules.proofs.both.Reads as both-reads
+use Rattle.entry_rules.proofs.same_address.Reads as same-address-reads
+
+same-address-requires : tie.Need-same-address-requires
+same-address-requires c κs = search needs
+
+both-requires : tie.Need-both-requires
+both-requires c κs = search needs
+
+returns : tie.Need-returns
+returns c = joined (c .both .ensures) (c .before .before .same-address .ensures) refl
+
+pub is-at-spec : {M : Type 1} → statement M
+is-at-spec = tie.close (tie.spec same-address-requires both-requires returns)

@@ -1,0 +1,25 @@
+-- `entry_rules::is_verified` meets its contract. Assumes nothing.
+use Rattle.entry_rules.proofs.Laws.{joined}
+use borrow.Author.Needs.{needs}
+use Rattle.entry_rules.proofs.is_verified.Statement.{statement}
+use Rattle.entry_rules.proofs.is_verified.Tie as tie
+use Rattle.entry_rules.proofs.is_verified.Reads as reads
+use Rattle.entry_rules.proofs.is_verified.Lts as lts
+use Rattle.entry_rules.proofs.both.Reads as both-reads
+use Rattle.entry_rules.proofs.is_at.Reads as is-at-reads
+use Rattle.entry_rules.proofs.proof_holds.Reads as proof-holds-reads
+
+is-at-requires : tie.Need-is-at-requires
+is-at-requires c κs = search needs
+
+proof-holds-requires : tie.Need-proof-holds-requires
+proof-holds-requires c κs = search needs
+
+both-requires : tie.Need-both-requires
+both-requires c κs = search needs
+
+returns : tie.Need-returns
+returns c = joined (c .both .ensures) (c .before .before .is-at .ensures) (c .before .proof-holds .ensures)
+
+pub is-verified-spec : {M : Type 1} → statement M
+is-verified-spec = tie.close (tie.spec is-at-requires proof-holds-requires both-requires returns)

@@ -1,0 +1,22 @@
+-- `entry_rules::pinged` meets its contract. Assumes nothing.
+use Rattle.entry_rules.proofs.Laws.{pinged-made}
+use borrow.Author.Needs.{needs}
+use Rattle.entry_rules.proofs.pinged.Statement.{statement}
+use Rattle.entry_rules.proofs.pinged.Tie as tie
+use Rattle.entry_rules.proofs.pinged.Reads as reads
+use Rattle.entry_rules.proofs.pinged.Lts as lts
+use Rattle.octets.proofs.get_bytes.Reads as get-bytes-reads
+
+slice-aggregate-get-bytes : tie.Need-slice-aggregate-get-bytes
+slice-aggregate-get-bytes c = search needs
+
+get-bytes-requires : tie.Need-get-bytes-requires
+get-bytes-requires c κs = search needs
+
+returns : tie.Need-returns
+returns c = let start = c .before .before .before .before .before .before .before in
+    let args = start .args in
+    pinged-made (args .e) (args .hash .now) (args .clock) (start .pre) (c .before .get-bytes .ensures)
+
+pub pinged-spec : {M : Type 1} → statement M
+pinged-spec = tie.close (tie.spec slice-aggregate-get-bytes get-bytes-requires returns)

@@ -1,0 +1,5 @@
+pub mod Sort
+pub mod Nearer
+pub mod Shift
+pub mod Place
+pub mod Held

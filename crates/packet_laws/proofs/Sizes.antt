@@ -1,0 +1,184 @@
+-- Sizes of written packets.
+use Prim.Native.Nat.{ℕ, zero, suc, _+_, _*_, _≤_, _<_, _^_}
+use mathlib.Core.Path.{_≡_, refl, sym, ap, _∙_}
+use mathlib.Core.Bool.{Bool, true, _&&_}
+use mathlib.Core.List.{List, [], _∷_, _++_, map}
+use native.Mathlib.Omega.{arith}
+use native.Mathlib.Decide.{decLt}
+use lib.Dec.{eqb, leb}
+use borrow.Author.Tests.{eqb-true, eq-eqb, le-leb}
+use lib.ListN.{length, take, length-append, length-take}
+use lib.Seq.{length-take-le}
+use Rattle.octets.specs.Octets.{Bytes, Slice}
+use Rattle.entry.specs.declared.Node.{Node}
+use Rattle.rlp.specs.Numbers.{uintBytes}
+use Rattle.rlp.specs.Encoding.{Item, string, list, header, encode, encodes}
+use Rattle.rlp.proofs.Numbers.{length-uint, width-more, width-least}
+use Rattle.rlp.proofs.Writing.{header-short, header-long, encode-list, uint-size-small, uint-size-large}
+use Rattle.packet_items.specs.Items.{uint, endpoint, node, pingItems, pongItems, findNodeItems, neighborsItems, enrRequestItems, enrResponseItems, enrSeqItems}
+use Rattle.packet_items.specs.declared.EnrSeq.{EnrSeq}
+use Rattle.packet_items.specs.declared.EnrSeq.the-variants.{Absent, Present}
+use Rattle.packet_parts.specs.Parts.{isAddress, isAddressSize, body, nodeItem, nodeItems, nodesOf, haveAddresses, writableNodes}
+use Rattle.packet_parts.specs.declared.NodeList.{NodeList}
+use Rattle.packet_parts.proofs.Tests.{and-left, and-right}
+use Rattle.packet_parts.proofs.Sizes.{total-size, uint-bytes, string-short, string-long, uint-width, address-size, fields-size, fields-bound, endpoint-size, node-size}
+use Rattle.packet_parts.proofs.Nodes.{few, addresses, address-is}
+use Rattle.packet_writer.specs.Writers.{isRecord, content, canPing, canPong}
+use Rattle.packet_writer.proofs.Records.{record-bound, content-is}
+use Rattle.packet_join.specs.Join.{canJoin, datagram}
+use Rattle.packet_join.proofs.Datagrams.{datagram-length}
+use Rattle.packet_laws.specs.Sizes.{AllOf, Joins, ReplySizes}
+use Rattle.packet_laws.specs.Bodies.{EnrFits, NodeFits, NodesFit, WrittenBody, ping, pong, findNode, neighbors, enrRequest, enrResponse}
+
+-- the header of a payload below 256 ^ k takes at most k bytes more
+pub header-width : (base k n : ℕ) → n < 256 ^ k → length (header base n) ≤ 1 + k
+header-width base k n h =
+    elim (decLt n 56) [ yes l ↦ omega (arith, ap length (header-short base n l)) | no g ↦ omega (arith, ap length (header-long base n (omega (arith, g))), uint-bytes k n h) ]
+
+pub header-three : (base n : ℕ) → 256 ≤ n → n < 65536 → length (header base n) ≡ 3
+header-three base n h l =
+    omega (arith, ap length (header-long base n (omega arith)), length-uint n, width-more 1 n (omega arith), width-least 2 n (omega arith))
+
+-- a list, and a body, by what its items take
+pub list-length : (p : Bytes) → length (encode (list p)) ≡ length (header 0xc0 (length p)) + length p
+list-length p = ap length (encode-list p) ∙ length-append (header 0xc0 (length p)) p
+
+pub body-length : (kind : ℕ) (items : List Item) → length (body kind items) ≡ 1 + length (header 0xc0 (length (encodes items))) + length (encodes items)
+body-length kind items = omega (arith, list-length (encodes items))
+
+body-bound : (k kind : ℕ) (items : List Item) → length (encodes items) < 256 ^ k → length (body kind items) ≤ 2 + k + length (encodes items)
+body-bound k kind items h = omega (arith, body-length kind items, header-width 0xc0 k (length (encodes items)) h)
+
+-- the parts at their largest
+last-bound : (x : ℕ) (e : EnrSeq) → x < 2 ^ 64 → EnrFits e → length (encodes (uint x ∷ enrSeqItems e)) ≤ 18
+last-bound x Absent hx h = omega (arith, total-size (uint x ∷ []), uint-width 8 x (omega arith) hx)
+last-bound x (Present n) hx h =
+    omega (arith, total-size (uint x ∷ uint n ∷ []), uint-width 8 x (omega arith) hx, uint-width 8 n (omega arith) h)
+
+endpoint-bound : (a : Bytes) (u t : ℕ) → isAddress a ≡ true → u < 2 ^ 16 → t < 2 ^ 16 → length (encode (endpoint a u t)) ≤ 24
+endpoint-bound a u t ok hu ht = omega (arith, endpoint-size a u t ok hu ht, fields-bound a u t ok hu ht)
+
+to-bound : (a : Bytes) (u : ℕ) → isAddress a ≡ true → u < 2 ^ 16 → length (encode (endpoint a u 0)) ≤ 22
+to-bound a u ok hu =
+    omega (arith, endpoint-size a u 0 ok hu (omega arith), fields-size a u 0 ok, address-size (length a) ok, uint-width 2 u (omega arith) hu, uint-size-small 0 (omega arith))
+
+node-bound : (n : Node) → NodeFits n → isAddressSize (n .endpoint .len) ≡ true → length (encode (nodeItem n)) ≤ 91
+node-bound n f ok =
+    let e = n .endpoint in
+    let a : isAddress (take (e .len) (e .address)) ≡ true = address-is (e .len) (e .address) ok (f .address) in
+    omega (arith, node-size (take (e .len) (e .address)) (e .udp) (e .tcp) (n .key) a (f .key) (f .udp) (f .tcp), fields-bound (take (e .len) (e .address)) (e .udp) (e .tcp) a (f .udp) (f .tcp))
+
+nodes-bound : (ns : List Node) → NodesFit ns → haveAddresses ns ≡ true → length (encodes (map nodeItem ns)) ≤ 91 * length ns
+nodes-bound [] f ok = omega arith
+nodes-bound (n ∷ ns) f ok =
+    let a = and-left (isAddressSize (n .endpoint .len)) (haveAddresses ns) ok in
+    let b = and-right (isAddressSize (n .endpoint .len)) (haveAddresses ns) ok in
+    omega (arith, length-append (encode (nodeItem n)) (encodes (map nodeItem ns)), node-bound n (f .0) a, nodes-bound ns (f .1) b)
+
+-- each of the six
+pub ping-bound : (f : Bytes) (fu ft : ℕ) (t : Bytes) (tu x : ℕ) (e : EnrSeq) → canPing f t ≡ true → fu < 2 ^ 16 → ft < 2 ^ 16 → tu < 2 ^ 16 → x < 2 ^ 64 → EnrFits e
+    → length (body 1 (pingItems 4 (endpoint f fu ft) (endpoint t tu 0) x (enrSeqItems e))) ≤ 68
+ping-bound f fu ft t tu x e ok hfu hft htu hx he =
+    let items : List Item = pingItems 4 (endpoint f fu ft) (endpoint t tu 0) x (enrSeqItems e) in
+    let s = total-size items in
+    let l = total-size (uint x ∷ enrSeqItems e) in
+    let b : length (encodes items) ≤ 65 = omega (
+      arith,
+      uint-size-small 4 (omega arith),
+      endpoint-bound f fu ft (and-left (isAddress f) (isAddress t) ok) hfu hft,
+      to-bound t tu (and-right (isAddress f) (isAddress t) ok) htu,
+      last-bound x e hx he,
+    ) in
+    omega (arith, body-bound 1 1 items (omega arith))
+
+pub pong-bound : (t : Bytes) (tu : ℕ) (hash : Bytes) (x : ℕ) (e : EnrSeq) → canPong t hash ≡ true → tu < 2 ^ 16 → x < 2 ^ 64 → EnrFits e
+    → length (body 2 (pongItems (endpoint t tu 0) hash x (enrSeqItems e))) ≤ 76
+pong-bound t tu hash x e ok htu hx he =
+    let items : List Item = pongItems (endpoint t tu 0) hash x (enrSeqItems e) in
+    let s = total-size items in
+    let l = total-size (uint x ∷ enrSeqItems e) in
+    let h = eqb-true (length hash) 32 (and-right (isAddress t) (eqb (length hash) 32) ok) in
+    let b : length (encodes items) ≤ 73 = omega (
+      arith,
+      to-bound t tu (and-left (isAddress t) (eqb (length hash) 32) ok) htu,
+      string-short hash (omega arith) (omega arith),
+      last-bound x e hx he,
+    ) in
+    omega (arith, body-bound 1 2 items (omega arith))
+
+pub find-node-bound : (target : Bytes) (x : ℕ) → length target ≡ 64 → x < 2 ^ 64 → length (body 3 (findNodeItems target x [])) ≤ 78
+find-node-bound target x h hx =
+    let items : List Item = findNodeItems target x [] in
+    let b : length (encodes items) ≤ 75 = omega (arith, total-size items, string-long target (omega arith) (omega arith), uint-width 8 x (omega arith) hx) in
+    omega (arith, body-bound 1 3 items (omega arith))
+
+pub neighbors-bound : (ns : List Item) (x : ℕ) → length (encodes ns) ≤ 1092 → x < 2 ^ 64 → length (body 4 (neighborsItems ns x [])) ≤ 1108
+neighbors-bound ns x h hx =
+    let items : List Item = neighborsItems ns x [] in
+    let b : length (encodes items) ≤ 1104 = omega (arith, total-size items, list-length (encodes ns), header-width 0xc0 2 (length (encodes ns)) (omega arith), uint-width 8 x (omega arith) hx) in
+    omega (arith, body-bound 2 4 items (omega arith))
+
+pub listed-bound : (l : NodeList) → writableNodes l ≡ true → NodesFit (nodesOf l) → length (encodes (nodeItems l)) ≤ 1092
+listed-bound l ok f = omega (arith, nodes-bound (nodesOf l) f (addresses l ok), few l ok, length-take (l .len) (l .nodes))
+
+pub enr-request-bound : (x : ℕ) → x < 2 ^ 64 → length (body 5 (enrRequestItems x [])) ≤ 11
+enr-request-bound x hx =
+    let items : List Item = enrRequestItems x [] in
+    let b : length (encodes items) ≤ 9 = omega (arith, total-size items, uint-width 8 x (omega arith) hx) in
+    omega (arith, body-length 5 items, ap length (header-short 0xc0 (length (encodes items)) (omega arith)))
+
+pub enr-response-bound : (hash r : Bytes) → Slice r → length hash ≡ 32 → isRecord r ≡ true → length (body 6 (enrResponseItems hash (content r) [])) ≤ 337
+enr-response-bound hash r s h ok =
+    let items : List Item = enrResponseItems hash (content r) [] in
+    let b : length (encodes items) ≤ 333 = omega (arith, total-size items, string-short hash (omega arith) (omega arith), ap length (content-is r s ok), record-bound r ok) in
+    omega (arith, body-bound 2 6 items (omega arith))
+
+-- every body that is written has 1 to 1,108 bytes
+pub body-range : {b : Bytes} → WrittenBody b → (1 ≤ length b) × (length b ≤ 1108)
+body-range (ping f fu ft t tu x e ok hfu hft htu hx he) = (omega arith, omega (arith, ping-bound f fu ft t tu x e ok hfu hft htu hx he))
+body-range (pong t tu hash x e ok htu hx he) = (omega arith, omega (arith, pong-bound t tu hash x e ok htu hx he))
+body-range (findNode target x ok hx) = (omega arith, omega (arith, find-node-bound target x (eqb-true (length target) 64 ok) hx))
+body-range (neighbors l x ok f hx) = (omega arith, neighbors-bound (nodeItems l) x (listed-bound l ok f) hx)
+body-range (enrRequest x hx) = (omega arith, omega (arith, enr-request-bound x hx))
+body-range (enrResponse hash r s ok) = (
+  omega arith,
+  omega (arith, enr-response-bound hash r s (eqb-true (length hash) 32 (and-left (eqb (length hash) 32) (isRecord r) ok)) (and-right (eqb (length hash) 32) (isRecord r) ok)),
+)
+
+-- so it can be joined
+pub written-joins : (signature : Bytes) {b : Bytes} → length signature ≡ 65 → WrittenBody b → Joins signature b
+written-joins signature {b} h w =
+    let r = body-range w in
+    record {
+      joins = rw (eq-eqb (length signature) 65 h, le-leb 1 (length b) (r .0), le-leb (length b) 1183 (omega (arith, r .1)));
+      size = omega (arith, datagram-length signature b, r .1);
+    }
+
+-- a reply of n nodes of 91 bytes each with an expiration of 9 bytes
+largest : (ns : List Item) (n : ℕ) → AllOf 91 ns → length ns ≡ n → length (encodes ns) ≡ 91 * n
+largest [] n a e = omega arith
+largest (i ∷ is) zero a e = absurd (omega arith)
+largest (i ∷ is) (suc n) a e = omega (arith, length-append (encode i) (encodes is), a .0, largest is n (a .1) (omega arith))
+
+reply-size : (signature : Bytes) (ns : List Item) (x n : ℕ) → length signature ≡ 65 → AllOf 91 ns → length ns ≡ n → 3 ≤ n → n < 100 → length (encode (uint x)) ≡ 9
+    → length (datagram signature (body 4 (neighborsItems ns x []))) ≡ 98 + 3 + 3 + 91 * n + 9
+reply-size signature ns x n hs a hn low high hx =
+    let items : List Item = neighborsItems ns x [] in
+    let p = largest ns n a hn in
+    let l : length (encode (list (encodes ns))) ≡ 3 + 91 * n = omega (arith, list-length (encodes ns), header-three 0xc0 (length (encodes ns)) (omega arith) (omega arith)) in
+    let b : length (encodes items) ≡ 3 + 91 * n + 9 = omega (arith, total-size items) in
+    omega (arith, datagram-length signature (body 4 items), body-length 4 items, header-three 0xc0 (length (encodes items)) (omega arith) (omega arith))
+
+two-byte : (u : ℕ) → 256 ≤ u → u < 2 ^ 16 → length (encode (uint u)) ≡ 3
+two-byte u h l = omega (arith, uint-size-large u (omega arith) (omega arith), length-uint u, width-more 1 u (omega arith), width-least 2 u (omega arith))
+
+pub reply-sizes : ReplySizes
+reply-sizes =
+    record {
+      twelve = λ signature ns x hs a hn hx. omega (arith, reply-size signature ns x 12 hs a hn (omega arith) (omega arith) hx);
+      thirteen = λ signature ns x hs a hn hx. omega (arith, reply-size signature ns x 13 hs a hn (omega arith) (omega arith) hx);
+      node = λ a u t key la hu lu ht lt lk.
+          let ok : isAddress a ≡ true = ap isAddressSize la in
+          omega (arith, node-size a u t key ok lk lu lt, fields-size a u t ok, two-byte u hu lu, two-byte t ht lt);
+      expiration = λ x h l. omega (arith, uint-size-large x l (omega arith), length-uint x, width-more 7 x h, width-least 8 x l);
+    }

@@ -1,0 +1,1 @@
+// No code: laws of written packets (specs/ says of which, proofs/ has them).

@@ -1,0 +1,5 @@
+pub mod Tests
+pub mod Progress
+pub mod Sizes
+pub mod Nodes
+pub mod Answers

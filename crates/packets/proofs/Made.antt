@@ -1,0 +1,69 @@
+-- What the functions over a payload's fields make of them.
+use Prim.Native.Nat.{ℕ, _+_}
+use mathlib.Core.Path.{_≡_, sym, ap, _∙_}
+use mathlib.Core.Bool.{true}
+use mathlib.Core.List.{List}
+use lib.ListN.{length, take, replicate}
+use Rattle.octets.specs.Octets.{Bytes, store}
+use Rattle.schema.specs.Schema.{verdict}
+use Rattle.schema.specs.declared.Kind.{Kind}
+use Rattle.schema.specs.declared.Verdict.{Verdict}
+use Rattle.schema.specs.declared.Verdict.the-variants.{Good}
+use Rattle.packets.specs.Spans.{bytesOf, moved, spanOf, portItem, fitting, padded, nodeOf}
+use Rattle.packets.specs.Packets.{senderOf, isKnown, schemaOf, requiredOf, packetOf, answered, readAs}
+use Rattle.packets.specs.declared.Packet.{Packet}
+use Rattle.packets.specs.declared.PacketType.{PacketType}
+use Rattle.packets.specs.declared.Span.{Span}
+use Rattle.packets.proofs.Spans.{payload-read}
+
+-- the endpoint that is item n
+module _ (base n : ℕ) (s : Bytes) (span : Span) (e : Bytes) (is : span ≡ spanOf n s) (bytes : e ≡ bytesOf s span) where
+  inside : e ≡ bytesOf s (spanOf n s)
+  inside = bytes ∙ ap (bytesOf s) is
+
+  pub sender-is : (inner a : Span) (u t : ℕ) → inner ≡ spanOf 0 e → a ≡ moved (base + span .start) inner → u ≡ portItem 1 e → t ≡ portItem 2 e
+      → record { address = a; udp = u; tcp = t } ≡ senderOf base n s
+  unfolding senderOf
+  sender-is inner a u t i m p q =
+      let pa : a ≡ moved (base + (spanOf n s) .start) (spanOf 0 (bytesOf s (spanOf n s))) =
+      m ∙ ap (moved (base + span .start)) (i ∙ ap (spanOf 0) inside) ∙ ap (λ (x : Span). moved (base + x .start) (spanOf 0 (bytesOf s (spanOf n s)))) is in
+      let pu = p ∙ ap (portItem 1) inside in
+      let pt = q ∙ ap (portItem 2) inside in
+      λ j. record { address = pa j; udp = pu j; tcp = pt j }
+
+-- the node of a payload
+pub node-is : (p : Bytes) (span₀ span₃ : Span) (b₀ b₃ key address : Bytes) (len udp tcp : ℕ) → span₀ ≡ spanOf 0 p → b₀ ≡ bytesOf p span₀ → span₃ ≡ spanOf 3 p → b₃ ≡ bytesOf p span₃
+    → key ≡ store (replicate 64 0) 0 (fitting 64 b₃) → address ≡ store (replicate 16 0) 0 (fitting 16 b₀) → len ≡ length (fitting 16 b₀) → udp ≡ portItem 1 p → tcp ≡ portItem 2 p
+    → record { key = key; endpoint = record { len = len; address = address; udp = udp; tcp = tcp } } ≡ nodeOf p
+unfolding nodeOf padded
+node-is p span₀ span₃ b₀ b₃ key address len udp tcp s₀ e₀ s₃ e₃ k a l u t =
+    let r₀ = payload-read 0 p span₀ b₀ s₀ e₀ in
+    let r₃ = payload-read 3 p span₃ b₃ s₃ e₃ in
+    let pk = k ∙ ap (λ (b : Bytes). store (replicate 64 0) 0 (fitting 64 b)) r₃ in
+    let pa = a ∙ ap (λ (b : Bytes). store (replicate 16 0) 0 (fitting 16 b)) r₀ in
+    let pl = l ∙ ap (λ (b : Bytes). length (fitting 16 b)) r₀ in
+    λ i. record { key = pk i; endpoint = record { len = pl i; address = pa i; udp = u i; tcp = t i } }
+
+-- packet data that was read
+module _ (t : PacketType) (base : ℕ) (d : Bytes) (v : Verdict) (kinds : List Kind) (n r : ℕ) (ks : take (length (schemaOf t)) kinds ≡ schemaOf t) (cs : n ≡ length (schemaOf t)) (rs : r ≡ requiredOf t)
+    (is : v ≡ verdict r (take n kinds) d) (known : isKnown t ≡ true) where
+  by-type : v ≡ verdict (requiredOf t) (schemaOf t) d
+  by-type = is ∙ ap (λ (k : ℕ). verdict k (take n kinds) d) rs ∙ ap (λ (l : List Kind). verdict (requiredOf t) l d) (ap (λ (k : ℕ). take k kinds) cs ∙ ks)
+
+  abbrev accepted : Packet
+  accepted = packetOf t (base + (spanOf 0 d) .start) (bytesOf d (spanOf 0 d))
+
+  pub read-verdict : answered v accepted ≡ readAs t base d
+  unfolding readAs
+  read-verdict = rw (known, ← by-type)
+
+  pub read-good : v ≡ Good → (span : Span) (p : Bytes) (x : Packet) → span ≡ spanOf 0 d → p ≡ bytesOf d span → x ≡ packetOf t (base + span .start) p → x ≡ readAs t base d
+  read-good g span p x s e q =
+      q
+      ∙ ap (packetOf t (base + span .start)) e
+      ∙ ap (λ (y : Span). packetOf t (base + y .start) (bytesOf d y)) s
+      ∙ sym (ap (λ (w : Verdict). answered w accepted) g)
+      ∙ read-verdict
+
+  pub read-refused : {x : Packet} → ((w : Packet) → answered v w ≡ x) → x ≡ readAs t base d
+  read-refused h = sym (h accepted) ∙ read-verdict

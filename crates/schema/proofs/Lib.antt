@@ -1,0 +1,4 @@
+pub mod Payload
+pub mod Turns
+pub mod Shapes
+pub mod Accepted

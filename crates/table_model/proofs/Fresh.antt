@@ -1,0 +1,45 @@
+-- A table with nothing held: its bytes, and that it is sound. Assumes nothing.
+use mathlib.Core.Path.{_≡_, refl, sym, ap, _∙_}
+use mathlib.Core.Bool.{Bool, true}
+use mathlib.Core.List.{List, [], _∷_, _++_, append-assoc, flatMap}
+use Prim.Native.Nat.{ℕ, zero, suc, _+_, _*_, _≤_, _<_}
+use native.Mathlib.Omega.{arith}
+use lib.ListN.{length, getD, replicate, length-append, length-replicate, getD-replicate, replicate-append-replicate}
+use Rattle.octets.specs.Octets.{Bytes, store, bigEndian}
+use Rattle.octets.proofs.Laws.{length-bigEndian}
+use Rattle.distance.specs.Distance.{home}
+use Rattle.bucket_model.specs.Contents.{Contents, noContents, encodeEntries, encodeList, encodeBucket}
+use Rattle.bucket_model.proofs.Kept.{sound-fresh}
+use Rattle.table_model.specs.Layout.{encodeHeader, encodeTable, numberOf}
+use Rattle.table_model.proofs.Records.{store-middle}
+use Rattle.table_model.proofs.Sound.{SoundTable}
+
+-- an empty bucket is zeros
+empty-zeros : encodeBucket noContents ≡ replicate 2862 0
+unfolding encodeBucket encodeList encodeEntries
+empty-zeros = ap (λ l. 0 ∷ 0 ∷ l) (replicate-append-replicate 2288 572 0)
+
+pub fresh-zeros : (count : ℕ) → flatMap encodeBucket (replicate count noContents) ≡ replicate (count * 2862) 0
+unfolding flatMap
+fresh-zeros zero = refl
+fresh-zeros (suc n) =
+    let e : 2862 + n * 2862 ≡ suc n * 2862 = omega arith in
+    ap (λ l. l ++ flatMap encodeBucket (replicate n noContents)) empty-zeros
+    ∙ ap (λ l. replicate 2862 0 ++ l) (fresh-zeros n)
+    ∙ replicate-append-replicate 2862 (n * 2862) 0
+    ∙ ap (λ (m : ℕ). replicate m 0) e
+
+-- "A fresh table is sound for every own key and every B"
+pub fresh-form : (own : Bytes) (count : ℕ) → length own ≡ 32 → 1 ≤ count → count ≤ 256 → SoundTable own 0 (replicate count noContents)
+fresh-form own count n one most =
+    let size : length (replicate count noContents) ≡ count = length-replicate count noContents in
+    record {
+      own-size = n;
+      clock-fits = omega arith;
+      one = omega arith;
+      most = omega arith;
+      each = λ j h.
+          let k : j < count = omega arith in
+          rw (getD-replicate count j noContents noContents k)
+          (record { rules = sound-fresh (home own (numberOf (length (replicate count noContents)) j)) 0; values = (tt, tt) });
+    }

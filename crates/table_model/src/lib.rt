@@ -1,0 +1,1 @@
+// No code: specs/ has the table's bytes, when they are sound, and which bucket a key falls in.
