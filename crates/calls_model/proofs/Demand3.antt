@@ -9,6 +9,7 @@ use Rattle.history.proofs.Step.{keccak-lawful}
 use Rattle.history.proofs.Chain.{demand3-on-bytes}
 use Rattle.calls_model.specs.Calls.{answerOn, bytesAfter}
 use Rattle.calls_model.specs.Demand3.{encode, Demand3OverBytes}
+use Rattle.calls_model.specs.Reading.{reading}
 use Rattle.calls_model.proofs.Step.{step-follows}
 
 pub demand3-over-bytes : (read : Bytes → ℕ → Reading) → Demand3OverBytes read
@@ -17,3 +18,7 @@ demand3-over-bytes read key count one most calls are =
     demand3-on-bytes (answerOn read) (bytesAfter read) (withKeccak read own count) (encode own)
     (keccak-lawful read own count (keccak256-length key) (keccak256-bytes key))
     (step-follows read own count one most) calls are
+
+-- with the reader of datagrams that the calls use
+pub demand3-of-calls : Demand3OverBytes reading
+demand3-of-calls = demand3-over-bytes reading
