@@ -1,30 +1,29 @@
 -- What is written reads back as the same fields.
 use Prim.Native.Nat.{ℕ, _+_, _*_, _≤_, _<_, _^_}
 use mathlib.Core.Path.{_≡_, refl, sym, ap, subst, _∙_}
-use mathlib.Core.Bool.{Bool, true, _&&_, cond}
+use mathlib.Core.Bool.{Bool, true, _&&_}
 use mathlib.Core.List.{List, [], _∷_, _++_, append-assoc, append-nil, map}
 use native.Mathlib.Omega.{arith}
 use borrow.Author.Tests.{eqb-true, eq-eqb, le-leb}
-use lib.Dec.{eqb, leb}
+use lib.Dec.{eqb}
 use lib.ListN.{length, take, drop, getD, length-append}
 use Rattle.entry.specs.declared.Node.{Node}
 use lib.Seq.{take-at, drop-at, drop-append-add, getD-append-add}
-use Rattle.octets.specs.Octets.{Bytes, Slice, part, sameBytes}
+use Rattle.octets.specs.Octets.{Bytes, Slice, part}
 use Rattle.octets.proofs.Laws.{same-refl}
 use Rattle.keccak.specs.Sponge.{keccak256}
 use Rattle.keccak.proofs.Laws.{keccak256-length}
-use Rattle.rlp.specs.Encoding.{Item, list, encode, encodes}
+use Rattle.rlp.specs.Encoding.{Item, encode, encodes}
 use Rattle.packet_items.specs.Items.{dataOf, endpoint, pingItems, pongItems, findNodeItems, neighborsItems, enrRequestItems, enrResponseItems, enrSeqItems}
 use Rattle.packet_items.specs.declared.EnrSeq.{EnrSeq}
 use Rattle.packet_items.specs.declared.EnrSeq.the-variants.{Absent, Present}
 use Rattle.schema.specs.Shapes.{Begins}
 use Rattle.packets.specs.Packets.{typeOf, readAs}
-use Rattle.packets.specs.declared.Packet.{Packet}
 use Rattle.packets.specs.declared.PacketType.the-variants as type
 use Rattle.packets.specs.Accepted.{trailing, SeqFits, addressOf, nodeItem, NodesGood, PingFields, PongFields, FindNodeFields, NeighborsFields, EnrRequestFields, EnrResponseFields}
 use Rattle.packets.proofs.Inversion.{ping-accepted, pong-accepted, find-node-accepted, enr-request-accepted, enr-response-accepted}
 use Rattle.packets.proofs.NodeLists.{neighbors-accepted}
-use Rattle.wire.specs.Datagram.{isSized, hashOf, hashMatches, signatureOf, packetIn}
+use Rattle.wire.specs.Datagram.{isSized, hashMatches, signatureOf, packetIn}
 use Rattle.packet_parts.specs.Parts.{body}
 use Rattle.packet_parts.proofs.Tests.{and-left, and-right}
 use Rattle.packet_writer.specs.Writers.{isRecord, content}

@@ -1,18 +1,16 @@
 -- Sizes of written packets.
 use Prim.Native.Nat.{ℕ, zero, suc, _+_, _*_, _≤_, _<_, _^_}
-use mathlib.Core.Path.{_≡_, refl, sym, ap, _∙_}
-use mathlib.Core.Bool.{Bool, true, _&&_}
-use mathlib.Core.List.{List, [], _∷_, _++_, map}
+use mathlib.Core.Path.{_≡_, ap, _∙_}
+use mathlib.Core.Bool.{true}
+use mathlib.Core.List.{List, [], _∷_, map}
 use native.Mathlib.Omega.{arith}
 use native.Mathlib.Decide.{decLt}
-use lib.Dec.{eqb, leb}
+use lib.Dec.{eqb}
 use borrow.Author.Tests.{eqb-true, eq-eqb, le-leb}
 use lib.ListN.{length, take, length-append, length-take}
-use lib.Seq.{length-take-le}
 use Rattle.octets.specs.Octets.{Bytes, Slice}
 use Rattle.entry.specs.declared.Node.{Node}
-use Rattle.rlp.specs.Numbers.{uintBytes}
-use Rattle.rlp.specs.Encoding.{Item, string, list, header, encode, encodes}
+use Rattle.rlp.specs.Encoding.{Item, list, header, encode, encodes}
 use Rattle.rlp.proofs.Numbers.{length-uint, width-more, width-least}
 use Rattle.rlp.proofs.Writing.{header-short, header-long, encode-list, uint-size-small, uint-size-large}
 use Rattle.packet_items.specs.Items.{uint, endpoint, node, pingItems, pongItems, findNodeItems, neighborsItems, enrRequestItems, enrResponseItems, enrSeqItems}
@@ -25,7 +23,7 @@ use Rattle.packet_parts.proofs.Sizes.{total-size, uint-bytes, string-short, str
 use Rattle.packet_parts.proofs.Nodes.{few, addresses, address-is}
 use Rattle.packet_writer.specs.Writers.{isRecord, content, canPing, canPong}
 use Rattle.packet_writer.proofs.Records.{record-bound, content-is}
-use Rattle.packet_join.specs.Join.{canJoin, datagram}
+use Rattle.packet_join.specs.Join.{datagram}
 use Rattle.packet_join.proofs.Datagrams.{datagram-length}
 use Rattle.packet_laws.specs.Sizes.{AllOf, Joins, ReplySizes}
 use Rattle.packet_laws.specs.Bodies.{EnrFits, NodeFits, NodesFit, WrittenBody, ping, pong, findNode, neighbors, enrRequest, enrResponse}

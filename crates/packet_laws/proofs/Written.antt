@@ -1,29 +1,28 @@
 -- Every body that the writers write is that of fields that can be written, so the round trip holds of it. A node record's address is
 -- padded with zeros when it is read.
-use Prim.Native.Nat.{ℕ, _+_, _≤_, _<_, _^_}
-use mathlib.Core.Path.{_≡_, refl, sym, ap, subst, _∙_}
-use mathlib.Core.Bool.{Bool, true, _&&_, _||_}
-use mathlib.Core.List.{List, [], _∷_, _++_, map}
+use Prim.Native.Nat.{ℕ, _+_, _≤_}
+use mathlib.Core.Path.{_≡_, refl, sym, ap, _∙_}
+use mathlib.Core.Bool.{true}
+use mathlib.Core.List.{List, [], _∷_, map}
 use native.Mathlib.Omega.{arith}
 use lib.Dec.{eqb}
 use borrow.Author.Tests.{eqb-true, le-leb}
 use lib.ListN.{length, take, drop, replicate, length-map, length-take}
 use lib.Seq.{take-append-seam}
-use Rattle.octets.specs.Octets.{Bytes, store}
+use Rattle.octets.specs.Octets.{Bytes}
 use Rattle.octets.proofs.Laws.{store-eq}
 use Rattle.entry.specs.declared.Node.{Node}
 use Rattle.rlp.specs.Encoding.{Item}
 use Rattle.packet_items.specs.Items.{node, neighborsItems}
 use Rattle.packet_items.specs.declared.EnrSeq.{EnrSeq}
 use Rattle.packet_items.specs.declared.EnrSeq.the-variants.{Absent, Present}
-use Rattle.packets.specs.Spans.{fitting, padded}
+use Rattle.packets.specs.Spans.{padded}
 use Rattle.packets.specs.Accepted.{SeqFits, addressOf, NodeGood, NodesGood}
 use Rattle.packets.specs.Accepted as read
-use Rattle.packet_parts.specs.Parts.{isAddress, isAddressSize, body, nodeItem, nodeItems, nodesOf, haveAddresses, writableNodes}
-use Rattle.packet_parts.specs.declared.NodeList.{NodeList}
+use Rattle.packet_parts.specs.Parts.{isAddress, isAddressSize, body, nodeItem, nodesOf, haveAddresses}
 use Rattle.packet_parts.proofs.Tests.{and-left, and-right}
 use Rattle.packet_parts.proofs.Sizes.{address-size}
-use Rattle.packet_parts.proofs.Nodes.{few, addresses, address-length, address-is}
+use Rattle.packet_parts.proofs.Nodes.{few, addresses, address-length}
 use Rattle.packet_laws.specs.Bodies.{EnrFits, NodeFits, NodesFit, WrittenBody}
 use Rattle.packet_laws.specs.Bodies as written
 use Rattle.packet_laws.specs.RoundTrip.{Fields, bodyOf, Writable}

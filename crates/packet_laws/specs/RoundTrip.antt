@@ -1,8 +1,8 @@
 -- The fields of a packet that was read, what the writers write of them, and what the two have to do with each other.
-use Prim.Native.Nat.{ℕ, _≤_, _<_, _^_}
+use Prim.Native.Nat.{_≤_, _<_, _^_}
 use mathlib.Core.Path.{_≡_}
 use mathlib.Core.Bool.{true}
-use mathlib.Core.List.{List, [], map}
+use mathlib.Core.List.{[], map}
 use lib.ListN.{length}
 use Rattle.octets.specs.Octets.{Bytes, Slice}
 use Rattle.packet_items.specs.Items.{neighborsItems}
@@ -12,7 +12,7 @@ use Rattle.packets.specs.declared.Packet.the-variants as packet
 use Rattle.packets.specs.Accepted.{SeqFits, PingFields, pingFields, PongFields, pongFields, FindNodeFields, findNodeFields, NeighborsFields, neighborsFields, NodesGood, nodeItem, EnrRequestFields, enrRequestFields, EnrResponseFields, enrResponseFields}
 use Rattle.wire.specs.Datagram.{isSized, hashMatches, signatureOf, packetIn}
 use Rattle.packet_parts.specs.Parts.{body}
-use Rattle.packet_writer.specs.Writers.{pingBody, pongBody, canFindNode, findNodeBody, enrRequestBody, canEnrResponse, enrResponseBody}
+use Rattle.packet_writer.specs.Writers.{pingBody, pongBody, findNodeBody, enrRequestBody, canEnrResponse, enrResponseBody}
 use Rattle.packet_join.specs.Join.{datagram}
 
 pub data Fields : Type 0 where

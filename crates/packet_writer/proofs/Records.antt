@@ -1,15 +1,15 @@
 -- A record that can be written is the encoding of the list that it holds.
-use Prim.Native.Nat.{ℕ, _+_, _-_, _≤_, _<_}
-use mathlib.Core.Path.{_≡_, refl, sym, ap, subst, _∙_}
-use mathlib.Core.Bool.{Bool, true, false, _&&_, false≢true}
-use mathlib.Core.List.{List, [], _++_, append-nil}
+use Prim.Native.Nat.{_+_, _-_, _≤_, _<_}
+use mathlib.Core.Path.{_≡_, refl, sym, ap, _∙_}
+use mathlib.Core.Bool.{true, false, false≢true}
+use mathlib.Core.List.{[], _++_, append-nil}
 use native.Mathlib.Omega.{arith}
-use lib.Dec.{eqb, leb}
+use lib.Dec.{leb}
 use borrow.Author.Tests.{le-leb, lt-leb, leb-true, eqb-true}
 use lib.ListN.{length, drop, drop-of-length-le}
 use Rattle.octets.specs.Octets.{Bytes, Slice, part}
 use Rattle.octets.proofs.Laws.{part-rest}
-use Rattle.rlp.specs.Encoding.{encode, list, itemOf}
+use Rattle.rlp.specs.Encoding.{encode, list}
 use Rattle.rlp.specs.Reading.{head}
 use Rattle.rlp.specs.declared.Header.{Header}
 use Rattle.rlp.specs.declared.Header.the-variants.{Item, Broken}

@@ -9,10 +9,6 @@ use Rattle.bucket.proofs.Laws.{length-mapped, load-turn, loaded}
 use borrow.Author.Needs.{needs}
 use Rattle.bucket.proofs.load_list.Statement.{statement}
 use Rattle.bucket.proofs.load_list.Tie as tie
-use Rattle.bucket.proofs.load_list.Reads as reads
-use Rattle.bucket.proofs.load_list.Lts as lts
-use Rattle.bucket.proofs.EntryList.empty.Reads as empty-reads
-use Rattle.entry.proofs.load_entry.Reads as load-entry-reads
 
 abbrev Inv-loop : tie.InvT-loop
 Inv-loop bytes at n l₀ i₀ l i = (i ≤ n) × ((length (l .items) ≡ 16) × (take i (l .items) ≡ entriesAt bytes at i))

@@ -7,9 +7,6 @@ use Rattle.bucket_lookup.proofs.Laws.{in-entries, in-replacements, entr
 use borrow.Author.Needs.{needs}
 use Rattle.bucket_lookup.proofs.entry_at.Statement.{statement}
 use Rattle.bucket_lookup.proofs.entry_at.Tie as tie
-use Rattle.bucket_lookup.proofs.entry_at.Reads as reads
-use Rattle.bucket_lookup.proofs.entry_at.Lts as lts
-use Rattle.entry.proofs.Entry.empty.Reads as empty-reads
 
 -- the type says how long the arrays are
 entries-size : (c : tie.Start) → length (c .args .b .entries .items) ≡ 16

@@ -4,8 +4,6 @@ use lib.Seq.{getD-take}
 use borrow.Author.Needs.{needs}
 use Rattle.bucket_lookup.proofs.head.Statement.{statement}
 use Rattle.bucket_lookup.proofs.head.Tie as tie
-use Rattle.bucket_lookup.proofs.head.Reads as reads
-use Rattle.bucket_lookup.proofs.head.Lts as lts
 
 element-copy-out-result : tie.Need-element-copy-out-result
 element-copy-out-result c = search needs

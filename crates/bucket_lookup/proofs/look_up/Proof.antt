@@ -4,10 +4,6 @@ use Rattle.bucket.specs.Values.{contents}
 use borrow.Author.Needs.{needs}
 use Rattle.bucket_lookup.proofs.look_up.Statement.{statement}
 use Rattle.bucket_lookup.proofs.look_up.Tie as tie
-use Rattle.bucket_lookup.proofs.look_up.Reads as reads
-use Rattle.bucket_lookup.proofs.look_up.Lts as lts
-use Rattle.bucket.proofs.Bucket.find.Reads as find-reads
-use Rattle.bucket_lookup.proofs.entry_at.Reads as entry-at-reads
 
 find-requires : tie.Need-find-requires
 find-requires c κs = search needs

@@ -5,11 +5,6 @@ use Rattle.bucket_rules.proofs.ByPosition.{heard-is}
 use borrow.Author.Needs.{needs}
 use Rattle.bucket_rules.proofs.heard.Statement.{statement}
 use Rattle.bucket_rules.proofs.heard.Tie as tie
-use Rattle.bucket_rules.proofs.heard.Reads as reads
-use Rattle.bucket_rules.proofs.heard.Lts as lts
-use Rattle.bucket_lookup.proofs.look_up.Reads as look-up-reads
-use Rattle.bucket_rules.proofs.tail_at.Reads as tail-at-reads
-use Rattle.entry_rules.proofs.heard.Reads as heard-reads
 
 look-up-requires : tie.Need-look-up-requires
 look-up-requires c κs = search needs

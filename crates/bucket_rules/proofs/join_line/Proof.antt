@@ -6,9 +6,6 @@ use Rattle.bucket_rules.proofs.Laws.{with-replacements}
 use borrow.Author.Needs.{needs}
 use Rattle.bucket_rules.proofs.join_line.Statement.{statement}
 use Rattle.bucket_rules.proofs.join_line.Tie as tie
-use Rattle.bucket_rules.proofs.join_line.Reads as reads
-use Rattle.bucket_rules.proofs.join_line.Lts as lts
-use Rattle.bucket.proofs.EntryList.push.Reads as push-reads
 
 -- the type says how long the arrays are
 entries-size : (c : tie.Start) → length (c .args .b .entries .items) ≡ 16

@@ -6,14 +6,6 @@ use Rattle.bucket_rules.proofs.ByPosition.{pinged-is, new-is}
 use borrow.Author.Needs.{needs}
 use Rattle.bucket_rules.proofs.ping_sent.Statement.{statement}
 use Rattle.bucket_rules.proofs.ping_sent.Tie as tie
-use Rattle.bucket_rules.proofs.ping_sent.Reads as reads
-use Rattle.bucket_rules.proofs.ping_sent.Lts as lts
-use Rattle.bucket_lookup.proofs.Lookup.is_held.Reads as is-held-reads
-use Rattle.bucket_lookup.proofs.look_up.Reads as look-up-reads
-use Rattle.bucket_rules.proofs.join_line.Reads as join-line-reads
-use Rattle.bucket_rules.proofs.put_at.Reads as put-at-reads
-use Rattle.entry_rules.proofs.new_entry.Reads as new-entry-reads
-use Rattle.entry_rules.proofs.pinged.Reads as pinged-reads
 
 look-up-requires : tie.Need-look-up-requires
 look-up-requires c κs = search needs

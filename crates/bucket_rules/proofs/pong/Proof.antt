@@ -5,11 +5,6 @@ use Rattle.bucket_rules.proofs.ByPosition.{pong-is}
 use borrow.Author.Needs.{needs}
 use Rattle.bucket_rules.proofs.pong.Statement.{statement}
 use Rattle.bucket_rules.proofs.pong.Tie as tie
-use Rattle.bucket_rules.proofs.pong.Reads as reads
-use Rattle.bucket_rules.proofs.pong.Lts as lts
-use Rattle.bucket_lookup.proofs.look_up.Reads as look-up-reads
-use Rattle.bucket_rules.proofs.promote_at.Reads as promote-at-reads
-use Rattle.entry_rules.proofs.ponged.Reads as ponged-reads
 
 look-up-requires : tie.Need-look-up-requires
 look-up-requires c κs = search needs

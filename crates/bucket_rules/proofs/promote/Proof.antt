@@ -6,11 +6,6 @@ use Rattle.bucket_rules.proofs.Laws.{promoted-free, promoted-full}
 use borrow.Author.Needs.{needs}
 use Rattle.bucket_rules.proofs.promote.Statement.{statement}
 use Rattle.bucket_rules.proofs.promote.Tie as tie
-use Rattle.bucket_rules.proofs.promote.Reads as reads
-use Rattle.bucket_rules.proofs.promote.Lts as lts
-use Rattle.bucket.proofs.EntryList.push.Reads as push-reads
-use Rattle.bucket.proofs.EntryList.remove.Reads as remove-reads
-use Rattle.bucket.proofs.EntryList.replace.Reads as replace-reads
 
 -- the type says how long the arrays are
 entries-size : (c : tie.Start) → length (c .args .b .entries .items) ≡ 16

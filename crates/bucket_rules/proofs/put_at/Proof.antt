@@ -8,9 +8,6 @@ use Rattle.bucket_rules.proofs.Laws.{with-entries, with-replacements, u
 use borrow.Author.Needs.{needs}
 use Rattle.bucket_rules.proofs.put_at.Statement.{statement}
 use Rattle.bucket_rules.proofs.put_at.Tie as tie
-use Rattle.bucket_rules.proofs.put_at.Reads as reads
-use Rattle.bucket_rules.proofs.put_at.Lts as lts
-use Rattle.bucket.proofs.EntryList.replace.Reads as replace-reads
 
 -- the type says how long the arrays are
 entries-size : (c : tie.Start) → length (c .args .b .entries .items) ≡ 16

@@ -6,9 +6,6 @@ use Rattle.bucket_rules.proofs.Laws.{with-entries}
 use borrow.Author.Needs.{needs}
 use Rattle.bucket_rules.proofs.to_tail.Statement.{statement}
 use Rattle.bucket_rules.proofs.to_tail.Tie as tie
-use Rattle.bucket_rules.proofs.to_tail.Reads as reads
-use Rattle.bucket_rules.proofs.to_tail.Lts as lts
-use Rattle.bucket.proofs.EntryList.to_tail.Reads as to-tail-reads
 
 -- the type says how long the arrays are
 entries-size : (c : tie.Start) → length (c .args .b .entries .items) ≡ 16

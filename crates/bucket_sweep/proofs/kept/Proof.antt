@@ -10,10 +10,6 @@ use Rattle.bucket_sweep.proofs.Laws.{Kept, counted, kept-turn, kept-don
 use borrow.Author.Needs.{needs}
 use Rattle.bucket_sweep.proofs.kept.Statement.{statement}
 use Rattle.bucket_sweep.proofs.kept.Tie as tie
-use Rattle.bucket_sweep.proofs.kept.Reads as reads
-use Rattle.bucket_sweep.proofs.kept.Lts as lts
-use Rattle.bucket_sweep.proofs.count.Reads as count-reads
-use Rattle.bucket_sweep.proofs.stays.Reads as stays-reads
 
 abbrev Inv-loop : tie.InvT-loop
 Inv-loop waiting clock l len kept₀ n₀ i₀ kept n i = (i ≤ len) × Kept (stays waiting (clock .0)) (l .items) (kept .items) i n

@@ -12,9 +12,6 @@ use Rattle.bucket_sweep.proofs.Laws.{promote-turn, promoteAll-line}
 use borrow.Author.Needs.{needs}
 use Rattle.bucket_sweep.proofs.promote_all.Statement.{statement}
 use Rattle.bucket_sweep.proofs.promote_all.Tie as tie
-use Rattle.bucket_sweep.proofs.promote_all.Reads as reads
-use Rattle.bucket_sweep.proofs.promote_all.Lts as lts
-use Rattle.bucket_sweep.proofs.promote_one.Reads as promote-one-reads
 
 abbrev Inv-loop : tie.InvT-loop
 Inv-loop line len after₀ i₀ after i = (i ≤ len) × Shows after (promoteAll (contents after₀) (take i (line .items)))

@@ -7,11 +7,6 @@ use Rattle.bucket_sweep.proofs.Laws.{moves-free, one-moves, one-stays}
 use borrow.Author.Needs.{needs}
 use Rattle.bucket_sweep.proofs.promote_one.Statement.{statement}
 use Rattle.bucket_sweep.proofs.promote_one.Tie as tie
-use Rattle.bucket_sweep.proofs.promote_one.Reads as reads
-use Rattle.bucket_sweep.proofs.promote_one.Lts as lts
-use Rattle.bucket.proofs.EntryList.push.Reads as push-reads
-use Rattle.entry_rules.proofs.both.Reads as both-reads
-use Rattle.entry_rules.proofs.is_proved.Reads as is-proved-reads
 
 -- the type says how long the arrays are
 entries-size : (c : tie.Start) → length (c .args .b .entries .items) ≡ 16

@@ -6,11 +6,6 @@ use Rattle.bucket_sweep.proofs.Laws.{stays-waiting, stays-else}
 use borrow.Author.Needs.{needs}
 use Rattle.bucket_sweep.proofs.stays.Statement.{statement}
 use Rattle.bucket_sweep.proofs.stays.Tie as tie
-use Rattle.bucket_sweep.proofs.stays.Reads as reads
-use Rattle.bucket_sweep.proofs.stays.Lts as lts
-use Rattle.entry_rules.proofs.both.Reads as both-reads
-use Rattle.entry_rules.proofs.is_overdue.Reads as is-overdue-reads
-use Rattle.entry_rules.proofs.proof_expired.Reads as proof-expired-reads
 
 is-overdue-requires : tie.Need-is-overdue-requires
 is-overdue-requires c κs = search needs

@@ -3,11 +3,6 @@ use Rattle.bucket_sweep.proofs.Laws.{swept}
 use borrow.Author.Needs.{needs}
 use Rattle.bucket_sweep.proofs.sweep.Statement.{statement}
 use Rattle.bucket_sweep.proofs.sweep.Tie as tie
-use Rattle.bucket_sweep.proofs.sweep.Reads as reads
-use Rattle.bucket_sweep.proofs.sweep.Lts as lts
-use Rattle.bucket.proofs.EntryList.empty.Reads as empty-reads
-use Rattle.bucket_sweep.proofs.kept.Reads as kept-reads
-use Rattle.bucket_sweep.proofs.promote_all.Reads as promote-all-reads
 
 kept-requires : tie.Need-kept-requires
 kept-requires c κs = search needs

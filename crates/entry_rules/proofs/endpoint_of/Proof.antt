@@ -3,9 +3,6 @@ use Rattle.entry_rules.proofs.Laws.{endpoint-made}
 use borrow.Author.Needs.{needs}
 use Rattle.entry_rules.proofs.endpoint_of.Statement.{statement}
 use Rattle.entry_rules.proofs.endpoint_of.Tie as tie
-use Rattle.entry_rules.proofs.endpoint_of.Reads as reads
-use Rattle.entry_rules.proofs.endpoint_of.Lts as lts
-use Rattle.octets.proofs.put_bytes.Reads as put-bytes-reads
 
 slice-aggregate-put-bytes : tie.Need-slice-aggregate-put-bytes
 slice-aggregate-put-bytes c = search needs

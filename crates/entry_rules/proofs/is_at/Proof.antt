@@ -4,10 +4,6 @@ use Rattle.entry_rules.proofs.Laws.{joined}
 use borrow.Author.Needs.{needs}
 use Rattle.entry_rules.proofs.is_at.Statement.{statement}
 use Rattle.entry_rules.proofs.is_at.Tie as tie
-use Rattle.entry_rules.proofs.is_at.Reads as reads
-use Rattle.entry_rules.proofs.is_at.Lts as lts
-use Rattle.entry_rules.proofs.both.Reads as both-reads
-use Rattle.entry_rules.proofs.same_address.Reads as same-address-reads
 
 same-address-requires : tie.Need-same-address-requires
 same-address-requires c κs = search needs

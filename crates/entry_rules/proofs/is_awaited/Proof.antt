@@ -3,12 +3,6 @@ use Rattle.entry_rules.proofs.Laws.{joined}
 use borrow.Author.Needs.{needs}
 use Rattle.entry_rules.proofs.is_awaited.Statement.{statement}
 use Rattle.entry_rules.proofs.is_awaited.Tie as tie
-use Rattle.entry_rules.proofs.is_awaited.Reads as reads
-use Rattle.entry_rules.proofs.is_awaited.Lts as lts
-use Rattle.entry_rules.proofs.both.Reads as both-reads
-use Rattle.entry_rules.proofs.is_at.Reads as is-at-reads
-use Rattle.entry_rules.proofs.is_out.Reads as is-out-reads
-use Rattle.octets.proofs.same_bytes.Reads as same-bytes-reads
 
 slice-aggregate-same-bytes : tie.Need-slice-aggregate-same-bytes
 slice-aggregate-same-bytes c = search needs

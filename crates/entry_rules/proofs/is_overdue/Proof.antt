@@ -5,9 +5,6 @@ use Rattle.bucket_model.specs.Rules.{isOverdue}
 use borrow.Author.Needs.{needs}
 use Rattle.entry_rules.proofs.is_overdue.Statement.{statement}
 use Rattle.entry_rules.proofs.is_overdue.Tie as tie
-use Rattle.entry_rules.proofs.is_overdue.Reads as reads
-use Rattle.entry_rules.proofs.is_overdue.Lts as lts
-use Rattle.entry_rules.proofs.since.Reads as since-reads
 
 enum-told : tie.Need-enum-told
 enum-told c = search needs

@@ -3,11 +3,6 @@ use Rattle.entry_rules.proofs.Laws.{joined}
 use borrow.Author.Needs.{needs}
 use Rattle.entry_rules.proofs.is_verified.Statement.{statement}
 use Rattle.entry_rules.proofs.is_verified.Tie as tie
-use Rattle.entry_rules.proofs.is_verified.Reads as reads
-use Rattle.entry_rules.proofs.is_verified.Lts as lts
-use Rattle.entry_rules.proofs.both.Reads as both-reads
-use Rattle.entry_rules.proofs.is_at.Reads as is-at-reads
-use Rattle.entry_rules.proofs.proof_holds.Reads as proof-holds-reads
 
 is-at-requires : tie.Need-is-at-requires
 is-at-requires c κs = search needs

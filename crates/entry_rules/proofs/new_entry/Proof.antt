@@ -3,10 +3,6 @@ use Rattle.entry_rules.proofs.Laws.{entry-made}
 use borrow.Author.Needs.{needs}
 use Rattle.entry_rules.proofs.new_entry.Statement.{statement}
 use Rattle.entry_rules.proofs.new_entry.Tie as tie
-use Rattle.entry_rules.proofs.new_entry.Reads as reads
-use Rattle.entry_rules.proofs.new_entry.Lts as lts
-use Rattle.entry_rules.proofs.endpoint_of.Reads as endpoint-of-reads
-use Rattle.octets.proofs.get_bytes.Reads as get-bytes-reads
 
 slice-aggregate-get-bytes : tie.Need-slice-aggregate-get-bytes
 slice-aggregate-get-bytes c = search needs

@@ -3,9 +3,6 @@ use Rattle.entry_rules.proofs.Laws.{pinged-made}
 use borrow.Author.Needs.{needs}
 use Rattle.entry_rules.proofs.pinged.Statement.{statement}
 use Rattle.entry_rules.proofs.pinged.Tie as tie
-use Rattle.entry_rules.proofs.pinged.Reads as reads
-use Rattle.entry_rules.proofs.pinged.Lts as lts
-use Rattle.octets.proofs.get_bytes.Reads as get-bytes-reads
 
 slice-aggregate-get-bytes : tie.Need-slice-aggregate-get-bytes
 slice-aggregate-get-bytes c = search needs

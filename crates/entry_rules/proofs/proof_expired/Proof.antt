@@ -5,9 +5,6 @@ use Rattle.bucket_model.specs.Rules.{proofExpired}
 use borrow.Author.Needs.{needs}
 use Rattle.entry_rules.proofs.proof_expired.Statement.{statement}
 use Rattle.entry_rules.proofs.proof_expired.Tie as tie
-use Rattle.entry_rules.proofs.proof_expired.Reads as reads
-use Rattle.entry_rules.proofs.proof_expired.Lts as lts
-use Rattle.entry_rules.proofs.since.Reads as since-reads
 
 enum-told : tie.Need-enum-told
 enum-told c = search needs

@@ -5,9 +5,6 @@ use Rattle.bucket_model.specs.Rules.{proofHolds}
 use borrow.Author.Needs.{needs}
 use Rattle.entry_rules.proofs.proof_holds.Statement.{statement}
 use Rattle.entry_rules.proofs.proof_holds.Tie as tie
-use Rattle.entry_rules.proofs.proof_holds.Reads as reads
-use Rattle.entry_rules.proofs.proof_holds.Lts as lts
-use Rattle.entry_rules.proofs.since.Reads as since-reads
 
 enum-told : tie.Need-enum-told
 enum-told c = search needs

@@ -7,9 +7,6 @@ use Rattle.entry_rules.proofs.Laws.{whole-address}
 use borrow.Author.Needs.{needs}
 use Rattle.entry_rules.proofs.same_address.Statement.{statement}
 use Rattle.entry_rules.proofs.same_address.Tie as tie
-use Rattle.entry_rules.proofs.same_address.Reads as reads
-use Rattle.entry_rules.proofs.same_address.Lts as lts
-use Rattle.octets.proofs.same_bytes.Reads as same-bytes-reads
 
 -- the type says how long the array is
 size : (c : tie.Start) → length (c .args .e .address) ≡ 16

@@ -1,6 +1,5 @@
 -- `packet_join::can_join` meets its contract. Assumes nothing.
 use borrow.Author.Tests.{eq-eqb, ne-eqb, le-leb, lt-leb}
-use borrow.Author.Needs.{needs}
 use Rattle.packet_join.proofs.can_join.Statement.{statement}
 use Rattle.packet_join.proofs.can_join.Tie as tie
 

@@ -1,13 +1,13 @@
 -- `packet_parts::nodes_size` meets its contract: what is added up and what the nodes from `i` on take is the whole. Assumes nothing.
-use Prim.Native.Nat.{ℕ, _+_, _-_, _*_, _≤_}
-use mathlib.Core.Path.{_≡_, refl, sym, ap, _∙_}
+use Prim.Native.Nat.{_+_, _-_, _*_, _≤_}
+use mathlib.Core.Path.{_≡_, ap}
 use mathlib.Core.Bool.{true}
 use mathlib.Core.List.{List, map}
 use native.Mathlib.Omega.{arith}
-use lib.ListN.{length, drop, getD}
+use lib.ListN.{length, drop}
 use Rattle.entry.specs.declared.Node.{Node}
-use Rattle.rlp.specs.Encoding.{encode, encodes}
-use Rattle.packet_parts.specs.Parts.{nodeItem, nodeItems, nodesOf, haveAddresses, writableNodes}
+use Rattle.rlp.specs.Encoding.{encodes}
+use Rattle.packet_parts.specs.Parts.{nodeItem, nodeItems, nodesOf, haveAddresses}
 use Rattle.packet_parts.proofs.Nodes.{noNode, length-mapped, few, addresses, has-address, have-more, next-size, all-passed}
 use borrow.Author.Needs.{needs}
 use Rattle.packet_parts.proofs.nodes_size.Statement.{statement}

@@ -1,12 +1,9 @@
 -- `packet_parts::nodes_writable` meets its contract: the nodes from `i` on decide. Assumes nothing.
-use Prim.Native.Nat.{ℕ, _+_, _-_, _*_, _≤_}
+use Prim.Native.Nat.{_-_, _≤_}
 use mathlib.Core.Path.{_≡_, refl, sym, ap, _∙_}
-use mathlib.Core.Bool.{true}
-use mathlib.Core.List.{List, map}
 use native.Mathlib.Omega.{arith}
-use lib.ListN.{length, drop, getD}
-use Rattle.rlp.specs.Encoding.{encode, encodes}
-use Rattle.packet_parts.specs.Parts.{nodeItem, nodeItems, nodesOf, haveAddresses, writableNodes}
+use lib.ListN.{length, drop}
+use Rattle.packet_parts.specs.Parts.{nodesOf, haveAddresses}
 use Rattle.packet_parts.proofs.Nodes.{noNode, length-mapped, not-few, writable-by, passed, stopped, all-passed}
 use borrow.Author.Needs.{needs}
 use Rattle.packet_parts.proofs.nodes_writable.Statement.{statement}

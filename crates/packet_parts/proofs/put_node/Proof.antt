@@ -1,8 +1,6 @@
 -- `packet_parts::put_node` meets its contract. Assumes nothing.
 use mathlib.Core.Path.{_≡_, sym}
-use mathlib.Core.Bool.{true}
-use native.Mathlib.Omega.{arith}
-use lib.ListN.{length, take}
+use lib.ListN.{length}
 use Rattle.packet_parts.proofs.Nodes.{address-within, address-length, address-is}
 use borrow.Author.Needs.{needs}
 use Rattle.packet_parts.proofs.put_node.Statement.{statement}

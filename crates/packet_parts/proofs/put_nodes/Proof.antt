@@ -1,13 +1,12 @@
 -- `packet_parts::put_nodes` meets its contract: the nodes from `i` on are still to come. Assumes nothing.
-use Prim.Native.Nat.{ℕ, _+_, _-_, _*_, _≤_}
-use mathlib.Core.Path.{_≡_, refl, sym, ap, _∙_}
+use Prim.Native.Nat.{_-_, _≤_}
+use mathlib.Core.Path.{_≡_, refl, ap, _∙_}
 use mathlib.Core.Bool.{true}
 use mathlib.Core.List.{List, map}
 use native.Mathlib.Omega.{arith}
-use lib.ListN.{length, drop, getD}
+use lib.ListN.{length, drop}
 use Rattle.entry.specs.declared.Node.{Node}
-use Rattle.rlp.specs.Encoding.{encode, encodes}
-use Rattle.packet_parts.specs.Parts.{nodeItem, nodeItems, nodesOf, haveAddresses, writableNodes}
+use Rattle.packet_parts.specs.Parts.{nodeItem, nodeItems, nodesOf, haveAddresses}
 use Rattle.packet_parts.proofs.Progress.{Progress, pieces, concat-pieces, start, room, step, renamed, finish}
 use Rattle.packet_parts.proofs.Nodes.{noNode, length-mapped, few, addresses, has-address, have-more, next-piece, all-passed}
 use borrow.Author.Needs.{needs}

@@ -1,12 +1,9 @@
 -- `packet_writer::write_enr_request` meets its contract. Assumes nothing.
-use Prim.Native.Nat.{ℕ, _+_}
-use mathlib.Core.Path.{_≡_, refl, sym, ap, _∙_}
-use mathlib.Core.Bool.{true}
-use mathlib.Core.List.{List, [], _∷_, _++_, append-nil, append-assoc}
+use mathlib.Core.Path.{_≡_, refl}
+use mathlib.Core.List.{List, []}
 use native.Mathlib.Omega.{arith}
-use lib.ListN.{length, length-append}
-use Rattle.octets.specs.Octets.{Bytes}
-use Rattle.rlp.specs.Encoding.{Item, header, encode, encodes, string, list}
+use lib.ListN.{length}
+use Rattle.rlp.specs.Encoding.{Item, encodes}
 use Rattle.packet_items.specs.Items.{enrRequestItems}
 use Rattle.packet_parts.proofs.Sizes.{total-size, uint-width}
 use Rattle.packet_parts.proofs.Progress.{pieces, concat-pieces, room, step}

@@ -1,5 +1,5 @@
 -- `packet_writer::write_enr_response` meets its contract. Assumes nothing.
-use Prim.Native.Nat.{ℕ, _+_}
+use Prim.Native.Nat.{_+_}
 use mathlib.Core.Path.{_≡_, refl, sym, ap, _∙_}
 use mathlib.Core.Bool.{true}
 use mathlib.Core.List.{List, [], _∷_, _++_}
@@ -7,7 +7,7 @@ use native.Mathlib.Omega.{arith}
 use lib.Dec.{eqb}
 use borrow.Author.Tests.{eqb-true}
 use lib.ListN.{length}
-use Rattle.octets.specs.Octets.{Bytes, Slice}
+use Rattle.octets.specs.Octets.{Bytes}
 use Rattle.rlp.specs.Encoding.{Item, encode, encodes, string, list}
 use Rattle.packet_items.specs.Items.{enrResponseItems}
 use Rattle.packet_parts.proofs.Tests.{and-left, and-right}

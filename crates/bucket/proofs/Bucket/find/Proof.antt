@@ -7,9 +7,6 @@ use Rattle.bucket.proofs.Laws.{length-mapped, length-listed, in-entries
 use borrow.Author.Needs.{needs}
 use Rattle.bucket.proofs.Bucket.find.Statement.{statement}
 use Rattle.bucket.proofs.Bucket.find.Tie as tie
-use Rattle.bucket.proofs.Bucket.find.Reads as reads
-use Rattle.bucket.proofs.Bucket.find.Lts as lts
-use Rattle.bucket.proofs.EntryList.find.Reads as find-reads
 
 -- the type says how long the arrays are
 entries-size : (c : tie.Start) → length (listed (c .args .self .entries)) ≡ c .args .self .entries .len

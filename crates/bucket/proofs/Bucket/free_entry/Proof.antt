@@ -7,8 +7,6 @@ use Rattle.bucket.proofs.Laws.{length-mapped, length-listed}
 use borrow.Author.Needs.{needs}
 use Rattle.bucket.proofs.Bucket.free_entry.Statement.{statement}
 use Rattle.bucket.proofs.Bucket.free_entry.Tie as tie
-use Rattle.bucket.proofs.Bucket.free_entry.Reads as reads
-use Rattle.bucket.proofs.Bucket.free_entry.Lts as lts
 
 -- the type says how long the array is
 items-size : (c : tie.Start) → length (c .args .self .entries .items) ≡ 16

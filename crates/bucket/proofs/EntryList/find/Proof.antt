@@ -10,9 +10,6 @@ use Rattle.bucket.proofs.Laws.{length-mapped, find-found, find-turn, fi
 use borrow.Author.Needs.{needs}
 use Rattle.bucket.proofs.EntryList.find.Statement.{statement}
 use Rattle.bucket.proofs.EntryList.find.Tie as tie
-use Rattle.bucket.proofs.EntryList.find.Reads as reads
-use Rattle.bucket.proofs.EntryList.find.Lts as lts
-use Rattle.bucket.proofs.has_key.Reads as has-key-reads
 
 abbrev Inv-loop : tie.InvT-loop
 Inv-loop key self len i₀ i = (i ≤ len) × (indexOf (isOf key) (take i (self .items)) ≡ i)

@@ -4,8 +4,6 @@ use native.Mathlib.Omega.{arith}
 use borrow.Author.Needs.{needs}
 use Rattle.bucket.proofs.EntryList.replace.Statement.{statement}
 use Rattle.bucket.proofs.EntryList.replace.Tie as tie
-use Rattle.bucket.proofs.EntryList.replace.Reads as reads
-use Rattle.bucket.proofs.EntryList.replace.Lts as lts
 
 mul-e : tie.Need-mul-e
 mul-e c = search needs

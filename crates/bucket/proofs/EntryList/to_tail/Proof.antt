@@ -4,10 +4,6 @@ use native.Mathlib.Omega.{arith}
 use borrow.Author.Needs.{needs}
 use Rattle.bucket.proofs.EntryList.to_tail.Statement.{statement}
 use Rattle.bucket.proofs.EntryList.to_tail.Tie as tie
-use Rattle.bucket.proofs.EntryList.to_tail.Reads as reads
-use Rattle.bucket.proofs.EntryList.to_tail.Lts as lts
-use Rattle.bucket.proofs.EntryList.push.Reads as push-reads
-use Rattle.bucket.proofs.EntryList.remove.Reads as remove-reads
 
 remove-requires : tie.Need-remove-requires
 remove-requires c κs = c .pre

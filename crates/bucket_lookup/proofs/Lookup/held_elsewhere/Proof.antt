@@ -6,11 +6,6 @@ use Rattle.bucket_lookup.proofs.Laws.{any-found}
 use borrow.Author.Needs.{needs}
 use Rattle.bucket_lookup.proofs.Lookup.held_elsewhere.Statement.{statement}
 use Rattle.bucket_lookup.proofs.Lookup.held_elsewhere.Tie as tie
-use Rattle.bucket_lookup.proofs.Lookup.held_elsewhere.Reads as reads
-use Rattle.bucket_lookup.proofs.Lookup.held_elsewhere.Lts as lts
-use Rattle.bucket_lookup.proofs.Lookup.is_held.Reads as is-held-reads
-use Rattle.entry_rules.proofs.both.Reads as both-reads
-use Rattle.entry_rules.proofs.is_at.Reads as is-at-reads
 
 is-held-requires : tie.Need-is-held-requires
 is-held-requires c κs = search needs

@@ -4,11 +4,6 @@ use Rattle.bucket_lookup.proofs.Laws.{any-found}
 use borrow.Author.Needs.{needs}
 use Rattle.bucket_lookup.proofs.Lookup.is_late.Statement.{statement}
 use Rattle.bucket_lookup.proofs.Lookup.is_late.Tie as tie
-use Rattle.bucket_lookup.proofs.Lookup.is_late.Reads as reads
-use Rattle.bucket_lookup.proofs.Lookup.is_late.Lts as lts
-use Rattle.bucket_lookup.proofs.Lookup.is_held.Reads as is-held-reads
-use Rattle.entry_rules.proofs.both.Reads as both-reads
-use Rattle.entry_rules.proofs.is_overdue.Reads as is-overdue-reads
 
 is-held-requires : tie.Need-is-held-requires
 is-held-requires c κs = search needs

@@ -4,10 +4,6 @@ use Rattle.bucket_lookup.proofs.Laws.{room}
 use borrow.Author.Needs.{needs}
 use Rattle.bucket_lookup.proofs.Lookup.no_room.Statement.{statement}
 use Rattle.bucket_lookup.proofs.Lookup.no_room.Tie as tie
-use Rattle.bucket_lookup.proofs.Lookup.no_room.Reads as reads
-use Rattle.bucket_lookup.proofs.Lookup.no_room.Lts as lts
-use Rattle.bucket_lookup.proofs.Lookup.is_held.Reads as is-held-reads
-use Rattle.entry_rules.proofs.both.Reads as both-reads
 
 is-held-requires : tie.Need-is-held-requires
 is-held-requires c κs = search needs

@@ -6,11 +6,6 @@ use Rattle.bucket_lookup.proofs.Laws.{any-found}
 use borrow.Author.Needs.{needs}
 use Rattle.bucket_lookup.proofs.Lookup.not_awaited.Statement.{statement}
 use Rattle.bucket_lookup.proofs.Lookup.not_awaited.Tie as tie
-use Rattle.bucket_lookup.proofs.Lookup.not_awaited.Reads as reads
-use Rattle.bucket_lookup.proofs.Lookup.not_awaited.Lts as lts
-use Rattle.bucket_lookup.proofs.Lookup.is_held.Reads as is-held-reads
-use Rattle.entry_rules.proofs.both.Reads as both-reads
-use Rattle.entry_rules.proofs.is_awaited.Reads as is-awaited-reads
 
 is-held-requires : tie.Need-is-held-requires
 is-held-requires c κs = search needs

@@ -6,11 +6,6 @@ use Rattle.bucket_lookup.proofs.Laws.{any-found}
 use borrow.Author.Needs.{needs}
 use Rattle.bucket_lookup.proofs.Lookup.not_verified.Statement.{statement}
 use Rattle.bucket_lookup.proofs.Lookup.not_verified.Tie as tie
-use Rattle.bucket_lookup.proofs.Lookup.not_verified.Reads as reads
-use Rattle.bucket_lookup.proofs.Lookup.not_verified.Lts as lts
-use Rattle.bucket_lookup.proofs.Lookup.is_held.Reads as is-held-reads
-use Rattle.entry_rules.proofs.both.Reads as both-reads
-use Rattle.entry_rules.proofs.is_verified.Reads as is-verified-reads
 
 is-held-requires : tie.Need-is-held-requires
 is-held-requires c κs = search needs

@@ -7,13 +7,6 @@ use Rattle.bucket_lookup.proofs.Laws.{held-or, held-and}
 use borrow.Author.Needs.{needs}
 use Rattle.bucket_lookup.proofs.Lookup.ping_due.Statement.{statement}
 use Rattle.bucket_lookup.proofs.Lookup.ping_due.Tie as tie
-use Rattle.bucket_lookup.proofs.Lookup.ping_due.Reads as reads
-use Rattle.bucket_lookup.proofs.Lookup.ping_due.Lts as lts
-use Rattle.bucket_lookup.proofs.Lookup.is_held.Reads as is-held-reads
-use Rattle.entry_rules.proofs.both.Reads as both-reads
-use Rattle.entry_rules.proofs.is_at.Reads as is-at-reads
-use Rattle.entry_rules.proofs.is_out.Reads as is-out-reads
-use Rattle.entry_rules.proofs.is_verified.Reads as is-verified-reads
 
 is-held-requires : tie.Need-is-held-requires
 is-held-requires c κs = search needs

@@ -1,0 +1,4 @@
+pub mod Tests
+pub mod Forms
+pub mod Steps
+pub mod Exact
