@@ -2,21 +2,6 @@
 // An input of more than 65,535 bytes is refused on standard error.
 use libc::STDERR_FILENO;
 use libc::STDIN_FILENO;
-use libc::STDOUT_FILENO;
-
-fn wide(b: u8) -> u64 {
-    b as u64
-}
-
-fn print_hash(message: &[u8]) {
-    let hash = keccak::keccak256(message);
-    let mut i: usize = 0;
-    while i < 32 {
-        io::print_hex(STDOUT_FILENO, wide(hash[i]), 2);
-        i += 1;
-    }
-    io::write_all(STDOUT_FILENO, b"\n");
-}
 
 enum Input {
     // the input's length; at the buffer's own length there may be more
@@ -48,7 +33,7 @@ fn hash_input(fd: i32, name: &[u8]) {
         Input::Failed => os::fail(name),
         Input::Bytes(n) => {
             if n <= 65535 {
-                print_hash(&buf[0..n]);
+                print_hash::print_hash(&buf[0..n]);
             } else {
                 io::write_all(STDERR_FILENO, name);
                 io::write_all(STDERR_FILENO, b": more than 65535 bytes\n");

@@ -2,21 +2,6 @@
 // The file `stdout` has what an independent implementation gives (tests/keccak/vectors.py).
 ghost use Prim.Native.Nat.{_≤_};
 ghost use lib.ListN.{length};
-use libc::STDOUT_FILENO;
-
-fn wide(b: u8) -> u64 {
-    b as u64
-}
-
-fn print_hash(message: &[u8]) {
-    let hash = keccak::keccak256(message);
-    let mut i: usize = 0;
-    while i < 32 {
-        io::print_hex(STDOUT_FILENO, wide(hash[i]), 2);
-        i += 1;
-    }
-    io::write_all(STDOUT_FILENO, b"\n");
-}
 
 // Byte i is 7 * i + 3, modulo 256.
 fn pattern() -> [u8; 1280] {
@@ -35,7 +20,7 @@ fn print_prefixes(bytes: &[u8], from: usize, to: usize)
 {
     let mut n = from;
     while n <= to {
-        print_hash(&bytes[0..n]);
+        print_hash::print_hash(&bytes[0..n]);
         n += 1;
     }
 }
@@ -109,11 +94,11 @@ const KEY: [u8; 64] = [
 ];
 
 fn main() {
-    print_hash(b"");
-    print_hash(b"abc");
-    print_hash(b"The quick brown fox jumps over the lazy dog");
-    print_hash(&[0xa3u8; 200]);
-    print_hash(&KEY);
+    print_hash::print_hash(b"");
+    print_hash::print_hash(b"abc");
+    print_hash::print_hash(b"The quick brown fox jumps over the lazy dog");
+    print_hash::print_hash(&[0xa3u8; 200]);
+    print_hash::print_hash(&KEY);
     let bytes = pattern();
     print_prefixes(&bytes, 63, 65);
     print_prefixes(&bytes, 134, 138);

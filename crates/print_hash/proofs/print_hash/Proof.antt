@@ -1,8 +1,8 @@
--- `keccak256::print_hash` is safe and ends. Assumes nothing.
+-- `print_hash::print_hash` is safe and ends. Assumes nothing.
 use Prim.Native.Nat.{_-_}
 use borrow.Author.Needs.{needs}
-use Rattle.keccak256.proofs.print_hash.Statement.{statement}
-use Rattle.keccak256.proofs.print_hash.Tie as tie
+use Rattle.print_hash.proofs.print_hash.Statement.{statement}
+use Rattle.print_hash.proofs.print_hash.Tie as tie
 
 abbrev Inv-loop : tie.InvT-loop
 Inv-loop message hash i₀ newline i = Unit {0}
