@@ -5,12 +5,17 @@ use mathlib.Core.List.{[], _++_}
 use lib.Dec.{eqb, leb}
 use Rattle.octets.specs.Octets.{Bytes, part, sameBytes}
 use Rattle.lists.specs.Lists.{any}
+use Rattle.distance.specs.Distance.{home}
 use Rattle.entry.specs.declared.Entry.{Entry}
 use Rattle.entry.specs.declared.Stamp.{Stamp}
 use Rattle.entry.specs.Layout.{encodeEntry, decodeEntry}
 use Rattle.bucket_model.specs.Contents.{entriesAt}
 use Rattle.bucket_model.specs.Rules.{isOf, isProved, isOut}
 use Rattle.bucket_model.specs.Sound.{entrySound}
+
+-- the own-bucket rule, where it is to be tested
+abbrev pub homeIf : Bool → Bytes → ℕ → Bytes → Bool
+homeIf tested own number key = cond tested (home own number key) true
 
 -- a stamp of the byte form: flag 1, or flag 0 and time 0
 abbrev pub stampForm : Stamp → Bool

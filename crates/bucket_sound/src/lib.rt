@@ -1,6 +1,6 @@
 // Whether a bucket's bytes are sound, tested where they lie.
 ghost use mathlib.Core.Path.{_≡_};
-ghost use mathlib.Core.Bool.{not, cond, _&&_};
+ghost use mathlib.Core.Bool.{true, not, cond, _&&_};
 ghost use Prim.Native.Nat.{_+_, _*_, _≤_};
 ghost use lib.ListN.{length, replicate};
 ghost use Rattle.octets.specs.Octets.{part, sameBytes};
@@ -10,7 +10,7 @@ ghost use Rattle.entry.specs.Layout.{decodeEndpoint, proofOf, pingOf};
 ghost use Rattle.bucket_model.specs.Contents.{entriesAt};
 ghost use Rattle.bucket_model.specs.Rules.{isOf, isProved, isOut};
 ghost use Rattle.bucket_model.specs.Sound.{addressForm, sound};
-ghost use Rattle.bucket_sound.specs.Records.{stampForm, stampBy, recordSound, allRecords, keysApart};
+ghost use Rattle.bucket_sound.specs.Records.{homeIf, stampForm, stampBy, recordSound, allRecords, keysApart};
 use entry::MonotonicMillis;
 use entry::Stamp;
 
@@ -81,6 +81,17 @@ fn in_bucket(bytes: &[u8], at: usize, own: &[u8], number: usize) -> bool
     distance::in_bucket(own, number, &bytes[at..end])
 }
 
+// The own-bucket rule of the record at index `at`, where it is to be tested.
+fn at_home(bytes: &[u8], at: usize, own: &[u8], number: usize, tested: bool) -> bool
+    requires { ⌜ (at + 64 ≤ length (now bytes)) × (length (now own) ≡ 32) ⌝ }
+    ensures { λ r. ⌜ r ≡ homeIf tested (now (own .entry)) number (part (now (bytes .entry)) at 64) ⌝ }
+{
+    if tested {
+        return in_bucket(bytes, at, own, number);
+    }
+    true
+}
+
 // Whether the record at index `at` keeps what each record of a sound bucket keeps.
 fn record_sound(
     bytes: &[u8],
@@ -90,9 +101,10 @@ fn record_sound(
     clock: MonotonicMillis,
     proved: bool,
     unproved: bool,
+    tested: bool,
 ) -> bool
     requires { ⌜ (at + 143 ≤ length (now bytes)) × (length (now own) ≡ 32) ⌝ }
-    ensures { λ r. ⌜ r ≡ recordSound (home (now (own .entry)) number) (clock .0) proved unproved (part (now (bytes .entry)) at 143) ⌝ }
+    ensures { λ r. ⌜ r ≡ recordSound (homeIf tested (now (own .entry)) number) (clock .0) proved unproved (part (now (bytes .entry)) at 143) ⌝ }
 {
     let seen = octets::number_at(bytes, at + 85, 8);
     let proof = entry::load_stamp(bytes, at + 93);
@@ -106,7 +118,7 @@ fn record_sound(
     );
     let shape = both(form, both(times, stands));
     if shape {
-        return in_bucket(bytes, at, own, number);
+        return at_home(bytes, at, own, number, tested);
     }
     false
 }
@@ -120,13 +132,23 @@ fn records_sound(
     clock: MonotonicMillis,
     proved: bool,
     unproved: bool,
+    tested: bool,
 ) -> bool
     requires { ⌜ (at + n * 143 ≤ length (now bytes)) × ((n ≤ 16) × (length (now own) ≡ 32)) ⌝ }
-    ensures { λ r. ⌜ r ≡ allRecords (recordSound (home (now (own .entry)) number) (clock .0) proved unproved) (now (bytes .entry)) at n ⌝ }
+    ensures { λ r. ⌜ r ≡ allRecords (recordSound (homeIf tested (now (own .entry)) number) (clock .0) proved unproved) (now (bytes .entry)) at n ⌝ }
 {
     let mut i = 0;
     while i < n {
-        if !record_sound(bytes, at + i * 143, own, number, clock, proved, unproved) {
+        if !record_sound(
+            bytes,
+            at + i * 143,
+            own,
+            number,
+            clock,
+            proved,
+            unproved,
+            tested,
+        ) {
             return false;
         }
         i += 1;
@@ -177,10 +199,17 @@ fn keys_apart(bytes: &[u8], at: usize, n: usize, other: usize, m: usize) -> bool
     true
 }
 
-// Whether the bytes of the bucket from index `at` are sound, in the table of the node with the hash `own`, at the table's clock.
-pub fn sound(bytes: &[u8], at: usize, own: &[u8], number: usize, clock: MonotonicMillis) -> bool
+// Whether the bytes of the bucket from index `at` are sound, the own-bucket rule left out where it is not to be tested.
+fn sound_where(
+    bytes: &[u8],
+    at: usize,
+    own: &[u8],
+    number: usize,
+    clock: MonotonicMillis,
+    tested: bool,
+) -> bool
     requires { ⌜ (at + 2862 ≤ length (now bytes)) × (length (now own) ≡ 32) ⌝ }
-    ensures { λ r. ⌜ r ≡ sound (home (now (own .entry)) number) (clock .0) (part (now (bytes .entry)) at 2862) ⌝ }
+    ensures { λ r. ⌜ r ≡ sound (homeIf tested (now (own .entry)) number) (clock .0) (part (now (bytes .entry)) at 2862) ⌝ }
 {
     let n = bytes[at] as usize;
     let m = bytes[at + 1] as usize;
@@ -200,7 +229,24 @@ pub fn sound(bytes: &[u8], at: usize, own: &[u8], number: usize, clock: Monotoni
         keys_apart(bytes, first, n, line, m),
         keys_apart(bytes, line, m, line, 0),
     );
-    let entries = records_sound(bytes, first, n, own, number, clock, true, false);
-    let replacements = records_sound(bytes, line, m, own, number, clock, n == 16, true);
+    let entries = records_sound(bytes, first, n, own, number, clock, true, false, tested);
+    let replacements = records_sound(bytes, line, m, own, number, clock, n == 16, true, tested);
     both(both(unused, keys), both(entries, replacements))
+}
+
+// Whether the bytes of the bucket from index `at` are sound, in the table of the node with the hash `own`, at the table's clock.
+pub fn sound(bytes: &[u8], at: usize, own: &[u8], number: usize, clock: MonotonicMillis) -> bool
+    requires { ⌜ (at + 2862 ≤ length (now bytes)) × (length (now own) ≡ 32) ⌝ }
+    ensures { λ r. ⌜ r ≡ sound (home (now (own .entry)) number) (clock .0) (part (now (bytes .entry)) at 2862) ⌝ }
+{
+    sound_where(bytes, at, own, number, clock, true)
+}
+
+// Whether they keep all of soundness but the own-bucket rule: for a caller that hashes the keys itself.
+pub fn settled(bytes: &[u8], at: usize, clock: MonotonicMillis) -> bool
+    requires { ⌜ at + 2862 ≤ length (now bytes) ⌝ }
+    ensures { λ r. ⌜ r ≡ sound (λ key. true) (clock .0) (part (now (bytes .entry)) at 2862) ⌝ }
+{
+    let none = [0u8; 32];
+    sound_where(bytes, at, &none, 0, clock, false)
 }

@@ -2,7 +2,7 @@
 use mathlib.Core.Path.{_≡_, refl, sym, ap, _∙_}
 use mathlib.Core.Bool.{Bool, true, false, _&&_}
 use mathlib.Core.List.{List, [], _∷_, _++_}
-use Prim.Native.Nat.{ℕ}
+use Prim.Native.Nat.{ℕ, _+_, _-_}
 use lib.Dec.{leb}
 use lib.ListN.{getD}
 use Rattle.octets.specs.Octets.{Bytes, sameBytes}
@@ -12,7 +12,9 @@ use Rattle.entry.specs.declared.Entry.{Entry}
 use Rattle.bucket_model.specs.Contents.{Contents, encodeBucket, decodeBucket}
 use Rattle.bucket_model.specs.Sound.{entrySound, keepsRules, sound, inTime, addressForm, distinct, isFull, mayWait}
 use Rattle.bucket_model.specs.Rules.{isProved}
-use Rattle.table_model.specs.Sound.{anywhere}
+use Rattle.distance.specs.Distance.{home}
+use Rattle.table_model.specs.Layout.{ownOf, clockOf, countOf, bucketBytes}
+use Rattle.table_model.specs.Sound.{anywhere, bucketSound}
 
 and-swap : (a b c : Bool) → ((a && b) && c) ≡ ((b && c) && a)
 and-swap true true true = refl
@@ -41,16 +43,16 @@ module _ {A : Type 0} where
   all-append q [] m = refl
   all-append q (a ∷ l) m = ap (λ b. q a && b) (all-append q l m) ∙ and-last (q a) (all q l) (all q m)
 
-module _ (home : Bytes → Bool) (clock : ℕ) where
+module _ (here : Bytes → Bool) (clock : ℕ) where
   abbrev atHome : Entry → Bool
-  atHome e = home (e .key)
+  atHome e = here (e .key)
 
-  entries-split : (l : List Entry) → all (entrySound home clock) l ≡ (all atHome l && all (entrySound anywhere clock) l)
+  entries-split : (l : List Entry) → all (entrySound here clock) l ≡ (all atHome l && all (entrySound anywhere clock) l)
   unfolding entrySound
   entries-split l = all-both atHome (λ e. inTime clock e && addressForm (e .endpoint)) l
 
   rules-split : (m : Contents)
-      → keepsRules home clock m ≡ (keepsRules anywhere clock m && (all atHome (m .entries) && all atHome (m .replacements)))
+      → keepsRules here clock m ≡ (keepsRules anywhere clock m && (all atHome (m .entries) && all atHome (m .replacements)))
   unfolding keepsRules
   rules-split m =
       let l : List Entry = m .entries ++ m .replacements in
@@ -60,7 +62,7 @@ module _ (home : Bytes → Bool) (clock : ℕ) where
       ∙ ap (λ b. (all (entrySound anywhere clock) l && rest) && b) (all-append atHome (m .entries) (m .replacements))
 
   pub sound-split : (s : Bytes)
-      → sound home clock s
+      → sound here clock s
       ≡ (sound anywhere clock s && (all atHome (decodeBucket s .entries) && all atHome (decodeBucket s .replacements)))
   unfolding sound
   sound-split s =
@@ -74,6 +76,13 @@ module _ (home : Bytes → Bool) (clock : ℕ) where
       ∙ ap (λ k. a && k) (and-last b (c && r) h)
       ∙ and-last a (b && (c && r)) h
 
-  pub sound-anywhere : (s : Bytes) → sound home clock s ≡ true → sound anywhere clock s ≡ true
+  pub sound-anywhere : (s : Bytes) → sound here clock s ≡ true → sound anywhere clock s ≡ true
   sound-anywhere s h =
       and-left (sound anywhere clock s) (all atHome (decodeBucket s .entries) && all atHome (decodeBucket s .replacements)) (sym (sound-split s) ∙ h)
+
+-- the bucket in a slot, by what is read of the header
+pub slot-is : (s : Bytes) (slot : ℕ) {own : Bytes} {clock count : ℕ} {r : Bool}
+    → own ≡ ownOf s → clock ≡ clockOf s → count ≡ countOf s
+    → r ≡ sound (home own (256 - count + slot)) clock (bucketBytes s slot)
+    → r ≡ bucketSound s slot
+slot-is s slot eo ec en er = cc

@@ -3,12 +3,13 @@ use mathlib.Core.Path.{_≡_, refl, sym, ap, _∙_}
 use mathlib.Core.Bool.{Bool, true, false, _&&_}
 use mathlib.Core.List.{List, [], _∷_, _++_, flatMap}
 use Prim.Native.Nat.{ℕ, zero, suc, _+_, _*_, _^_, _≤_, _<_}
+use native.Mathlib.Nat.{add-zero}
 use native.Mathlib.Omega.{arith}
 use borrow.Author.Tests.{leb-true, eqb-true, eqb-false}
 use lib.Dec.{eqb, leb}
 use lib.ListN.{length, getD, drop}
-use Rattle.octets.specs.Octets.{Bytes, IsBytes, sameBytes}
-use Rattle.octets.proofs.Laws.{length-part, bytes-part, number-less}
+use Rattle.octets.specs.Octets.{Bytes, IsBytes, part, sameBytes}
+use Rattle.octets.proofs.Laws.{length-part, bytes-part, getD-part, number-less}
 use Rattle.lists.specs.Lists.{All}
 use Rattle.lists.proofs.Laws.{byTest, and-left, and-right}
 use Rattle.distance.specs.Distance.{home}
@@ -41,6 +42,10 @@ unfolding allBelow
 below-all zero q h = refl
 below-all (suc n) q h = cc (below-all n q (λ i k. h i (omega arith)), h n (omega arith))
 
+pub below-false : (n : ℕ) (q : ℕ → Bool) (i : ℕ) → i < n → q i ≡ false → allBelow n q ≡ false
+below-false n q i k h =
+    byTest (allBelow n q) (λ t. absurd (let both : true ≡ false = sym (all-below n q t i k) ∙ h in let z : _≡_ {A = ℕ} 0 1 = cc in omega arith)) (λ t. t)
+
 -- ---- a bucket
 
 -- sound contents, of values that have a byte form
@@ -72,13 +77,21 @@ module _ (home : Bytes → Bool) (clock : ℕ) (s : Bytes) (n : length s ≡ 286
       ∙ sym (f .form)
 
 -- the counts of sound bytes
-pub sound-counts : (home : Bytes → Bool) (clock : ℕ) (s : Bytes) → sound home clock s ≡ true → (getD s 0 0 ≤ 16) × (getD s 1 0 ≤ 4)
+sound-counts : (home : Bytes → Bool) (clock : ℕ) (s : Bytes) → sound home clock s ≡ true → (getD s 0 0 ≤ 16) × (getD s 1 0 ≤ 4)
 unfolding sound
 sound-counts home clock s h =
     let a = leb (getD s 0 0) 16 in
     let b = leb (getD s 1 0) 4 in
     let rest = sameBytes (encodeBucket (decodeBucket s)) s && keepsRules home clock (decodeBucket s) in
     (leb-true (getD s 0 0) 16 (and-left a (b && rest) h), leb-true (getD s 1 0) 4 (and-left b rest (and-right a (b && rest) h)))
+
+pub counts-at : (home : Bytes → Bool) (clock : ℕ) (s : Bytes) (at : ℕ) → at + 2862 ≤ length s → sound home clock (part s at 2862) ≡ true
+    → (getD s at 0 ≤ 16) × (getD s (at + 1) 0 ≤ 4)
+counts-at home clock s at fits h =
+    let n = sound-counts home clock (part s at 2862) h in
+    let e : getD (part s at 2862) 0 0 ≡ getD s at 0 = getD-part s at 2862 0 (omega arith) ∙ ap (λ (i : ℕ). getD s i 0) (add-zero at) in
+    let f : getD (part s at 2862) 1 0 ≡ getD s (at + 1) 0 = getD-part s at 2862 1 (omega arith) in
+    (omega (arith, n .0), omega (arith, n .1))
 
 -- ---- a table
 

@@ -1,5 +1,5 @@
 -- `bucket_sound::record_sound` meets its contract. Assumes nothing.
-use Rattle.distance.specs.Distance.{home}
+use Rattle.bucket_sound.specs.Records.{homeIf}
 use Rattle.bucket_sound.proofs.Exact.{shape-is, record-yes, record-no}
 use borrow.Author.Needs.{needs}
 use Rattle.bucket_sound.proofs.record_sound.Statement.{statement}
@@ -62,26 +62,26 @@ both-requires-5 c κs = search needs
 both-requires-6 : tie.Need-both-requires-6
 both-requires-6 c κs = search needs
 
-in-bucket-requires : tie.Need-in-bucket-requires
-in-bucket-requires c κs = search needs
+at-home-requires : tie.Need-at-home-requires
+at-home-requires c κs = search needs
 
 returns : tie.Need-returns
 returns c = let start = c .before .before .before .before .before .before .before .before .before .before .before .before .before .before .before .before .before .before .before .before in
     let args = start .args in
     let at-shape = c .before .before in
-    record-yes (home (args .own .now) (args .number)) (args .clock .0) (args .proved) (args .unproved) (args .bytes .now) (args .at) (start .pre .0) (λ k. c .before .before .before .before .before .before .before .before .before .before .before .before .before .before .before .before .before .before .before .shared-slice-known .given k .fits)
-    (shape-is (home (args .own .now) (args .number)) (args .clock .0) (args .proved) (args .unproved) (args .bytes .now) (args .at)
+    record-yes (homeIf (args .tested) (args .own .now) (args .number)) (args .clock .0) (args .proved) (args .unproved) (args .bytes .now) (args .at) (start .pre .0) (λ k. c .before .before .before .before .before .before .before .before .before .before .before .before .before .before .before .before .before .before .before .shared-slice-known .given k .fits)
+    (shape-is (homeIf (args .tested) (args .own .now) (args .number)) (args .clock .0) (args .proved) (args .unproved) (args .bytes .now) (args .at)
     (at-shape .before .before .before .before .before .before .before .before .before .before .before .before .before .before .before .number-at .ensures) (at-shape .before .before .before .before .before .before .before .before .before .before .before .before .before .before .load-stamp .ensures) (at-shape .before .before .before .before .before .before .before .before .before .before .before .before .before .load-stamp2 .ensures) (at-shape .before .before .before .before .before .before .before .before .before .before .before .before .stamp-form .ensures) (at-shape .before .before .before .before .before .before .before .before .before .before .before .stamp-form2 .ensures) (at-shape .before .before .before .before .before .before .before .before .before .before .both .ensures)
     (at-shape .before .before .before .before .before .before .before .before .before .stamp-by .ensures) (at-shape .before .before .before .before .before .before .before .before .stamp-by2 .ensures) (at-shape .before .before .before .before .before .before .before .both2 .ensures) (at-shape .before .before .before .before .before .both3 .ensures) (at-shape .before .before .before .before .may-stand .ensures) (at-shape .before .before .before .address-form .ensures)
     (at-shape .before .before .both4 .ensures) (at-shape .before .both5 .ensures) (at-shape .both6 .ensures))
-    (c .before .if1 .taken) (c .in-bucket .ensures)
+    (c .before .if1 .taken) (c .at-home .ensures)
 
 returns-2 : tie.Need-returns-2
 returns-2 c = let start = c .before .before .before .before .before .before .before .before .before .before .before .before .before .before .before .before .before .before .before in
     let args = start .args in
     let at-shape = c .before in
-    record-no (home (args .own .now) (args .number)) (args .clock .0) (args .proved) (args .unproved) (args .bytes .now) (args .at) (start .pre .0) (λ k. c .before .before .before .before .before .before .before .before .before .before .before .before .before .before .before .before .before .before .shared-slice-known .given k .fits)
-    (shape-is (home (args .own .now) (args .number)) (args .clock .0) (args .proved) (args .unproved) (args .bytes .now) (args .at)
+    record-no (homeIf (args .tested) (args .own .now) (args .number)) (args .clock .0) (args .proved) (args .unproved) (args .bytes .now) (args .at) (start .pre .0) (λ k. c .before .before .before .before .before .before .before .before .before .before .before .before .before .before .before .before .before .before .shared-slice-known .given k .fits)
+    (shape-is (homeIf (args .tested) (args .own .now) (args .number)) (args .clock .0) (args .proved) (args .unproved) (args .bytes .now) (args .at)
     (at-shape .before .before .before .before .before .before .before .before .before .before .before .before .before .before .before .number-at .ensures) (at-shape .before .before .before .before .before .before .before .before .before .before .before .before .before .before .load-stamp .ensures) (at-shape .before .before .before .before .before .before .before .before .before .before .before .before .before .load-stamp2 .ensures) (at-shape .before .before .before .before .before .before .before .before .before .before .before .before .stamp-form .ensures) (at-shape .before .before .before .before .before .before .before .before .before .before .before .stamp-form2 .ensures) (at-shape .before .before .before .before .before .before .before .before .before .before .both .ensures)
     (at-shape .before .before .before .before .before .before .before .before .before .stamp-by .ensures) (at-shape .before .before .before .before .before .before .before .before .stamp-by2 .ensures) (at-shape .before .before .before .before .before .before .before .both2 .ensures) (at-shape .before .before .before .before .before .both3 .ensures) (at-shape .before .before .before .before .may-stand .ensures) (at-shape .before .before .before .address-form .ensures)
     (at-shape .before .before .both4 .ensures) (at-shape .before .both5 .ensures) (at-shape .both6 .ensures))
@@ -110,6 +110,6 @@ record-sound-spec =
     both-requires-4
     both-requires-5
     both-requires-6
-    in-bucket-requires
+    at-home-requires
     returns
     returns-2)

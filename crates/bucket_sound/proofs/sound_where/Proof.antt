@@ -1,11 +1,11 @@
--- `bucket_sound::sound` meets its contract. Assumes nothing.
+-- `bucket_sound::sound_where` meets its contract. Assumes nothing.
 use Prim.Native.Nat.{_+_}
 use native.Mathlib.Omega.{arith}
-use Rattle.distance.specs.Distance.{home}
+use Rattle.bucket_sound.specs.Records.{homeIf}
 use Rattle.bucket_sound.proofs.Exact.{sound-done, too-many, too-many-waiting}
 use borrow.Author.Needs.{needs}
-use Rattle.bucket_sound.proofs.sound.Statement.{statement}
-use Rattle.bucket_sound.proofs.sound.Tie as tie
+use Rattle.bucket_sound.proofs.sound_where.Statement.{statement}
+use Rattle.bucket_sound.proofs.sound_where.Tie as tie
 
 shared-slice-read-n : tie.Need-shared-slice-read-n
 shared-slice-read-n c = search needs
@@ -23,10 +23,10 @@ cast-m : tie.Need-cast-m
 cast-m c = omega (arith, c .shared-slice-known4 .given (c .before .before .before .before .args .at + 1))
 
 returns : tie.Need-returns
-returns c = let start = c .before .before .before .before .before in let args = start .args in too-many (home (args .own .now) (args .number)) (args .clock .0) (args .bytes .now) (args .at) (start .pre .0) (c .if1 .taken)
+returns c = let start = c .before .before .before .before .before in let args = start .args in too-many (homeIf (args .tested) (args .own .now) (args .number)) (args .clock .0) (args .bytes .now) (args .at) (start .pre .0) (c .if1 .taken)
 
 returns-2 : tie.Need-returns-2
-returns-2 c = let start = c .before .before .before .before .before .before in let args = start .args in too-many-waiting (home (args .own .now) (args .number)) (args .clock .0) (args .bytes .now) (args .at) (start .pre .0) (c .before .if1 .left) (c .if2 .taken)
+returns-2 c = let start = c .before .before .before .before .before .before in let args = start .args in too-many-waiting (homeIf (args .tested) (args .own .now) (args .number)) (args .clock .0) (args .bytes .now) (args .at) (start .pre .0) (c .before .if1 .left) (c .if2 .taken)
 
 add-first : tie.Need-add-first
 add-first c = search needs
@@ -88,12 +88,12 @@ both-requires-5 c κs = search needs
 returns-3 : tie.Need-returns-3
 returns-3 c = let start = c .before .before .before .before .before .before .before .before .before .before .before .before .before .before .before .before .before in
     let args = start .args in
-    sound-done (home (args .own .now) (args .number)) (args .clock .0) (args .bytes .now) (args .at) (start .pre .0) (λ k. c .before .before .before .before .before .before .before .before .before .before .before .before .before .before .before .before .shared-slice-known .given k .fits) (c .before .before .before .before .before .before .before .before .before .before .before .before .if1 .left) (c .before .before .before .before .before .before .before .before .before .before .before .if2 .left)
+    sound-done (homeIf (args .tested) (args .own .now) (args .number)) (args .clock .0) (args .bytes .now) (args .at) (start .pre .0) (λ k. c .before .before .before .before .before .before .before .before .before .before .before .before .before .before .before .before .shared-slice-known .given k .fits) (c .before .before .before .before .before .before .before .before .before .before .before .before .if1 .left) (c .before .before .before .before .before .before .before .before .before .before .before .if2 .left)
     (c .before .before .before .before .before .before .before .before .before .before .zeros .ensures) (c .before .before .before .before .before .before .before .before .before .zeros2 .ensures) (c .before .before .before .before .before .before .before .before .both .ensures) (c .before .before .before .before .before .before .before .keys-apart .ensures) (c .before .before .before .before .before .before .keys-apart2 .ensures) (c .before .before .before .before .before .both2 .ensures)
     (c .before .before .before .before .records-sound .ensures) (c .before .before .before .records-sound2 .ensures) (c .before .before .both3 .ensures) (c .before .both4 .ensures) (c .both5 .ensures)
 
-pub sound-spec : {M : Type 1} → statement M
-sound-spec =
+pub sound-where-spec : {M : Type 1} → statement M
+sound-where-spec =
     tie.close
     (tie.spec
     shared-slice-read-n

@@ -1,0 +1,20 @@
+-- `lines::last_line` meets its contract. Assumes nothing.
+use borrow.Author.Tests.{eq-eqb, ne-eqb}
+use Rattle.lines.specs.Steps.{lastOf}
+use Rattle.lines.proofs.last_line.Statement.{statement}
+use Rattle.lines.proofs.last_line.Tie as tie
+
+returns : tie.Need-returns
+unfolding lastOf
+returns c = rw (c .if1 .taken)
+
+returns-2 : tie.Need-returns-2
+unfolding lastOf
+returns-2 c = rw (c .before .if1 .left, eq-eqb _ 0 (c .if2 .taken))
+
+returns-3 : tie.Need-returns-3
+unfolding lastOf
+returns-3 c = rw (c .before .if1 .left, ne-eqb _ 0 (c .if2 .left))
+
+pub last-line-spec : {M : Type 1} → statement M
+last-line-spec = tie.close (tie.spec returns returns-2 returns-3)

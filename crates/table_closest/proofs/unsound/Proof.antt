@@ -1,0 +1,13 @@
+-- `table_closest::unsound` meets its contract. Assumes nothing.
+use mathlib.Core.Path.{_≡_, ap}
+use mathlib.Core.Bool.{false}
+use borrow.Author.Needs.{needs}
+use Rattle.table_closest.specs.declared.Chosen.{Chosen}
+use Rattle.table_closest.proofs.unsound.Statement.{statement}
+use Rattle.table_closest.proofs.unsound.Tie as tie
+
+returns : tie.Need-returns
+returns c = ap (λ n. let r : Chosen = record { sound = false; nearest = n } in r) (c .none .ensures)
+
+pub unsound-spec : {M : Type 1} → statement M
+unsound-spec = tie.close (tie.spec (λ c κs. search needs) returns)
