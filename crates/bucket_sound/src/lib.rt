@@ -47,19 +47,18 @@ fn may_stand(proof: Stamp, ping: Stamp, proved: bool, unproved: bool) -> bool
     proved
 }
 
-// Whether `n` bytes from index `at` are zero.
+// Whether `n` bytes from index `at` are zero. No way out before the end: so the loop is compiled to wide steps.
 fn zeros(bytes: &[u8], at: usize, n: usize) -> bool
     requires { ⌜ at + n ≤ length (now bytes) ⌝ }
     ensures { λ r. ⌜ r ≡ sameBytes (replicate n 0) (part (now (bytes .entry)) at n) ⌝ }
 {
+    let mut any: u8 = 0;
     let mut i = 0;
     while i < n {
-        if bytes[at + i] != 0 {
-            return false;
-        }
+        any = any | bytes[at + i];
         i += 1;
     }
-    true
+    any == 0
 }
 
 fn address_form(bytes: &[u8], at: usize) -> bool

@@ -1,13 +1,11 @@
 -- A bucket taken: its test, in the two parts that the walk over its entries makes. Assumes nothing.
-use mathlib.Core.Path.{_≡_, refl, sym, ap, _∙_}
+use mathlib.Core.Path.{_≡_, sym, ap, _∙_}
 use mathlib.Core.Bool.{Bool, true, false, _&&_}
-use mathlib.Core.List.{List}
 use Prim.Native.Nat.{ℕ, _+_, _≤_}
 use lib.ListN.{length, getD}
 use Rattle.octets.specs.Octets.{Bytes}
 use Rattle.lists.specs.Lists.{all}
 use Rattle.distance.specs.Distance.{home}
-use Rattle.entry.specs.declared.Entry.{Entry}
 use Rattle.bucket_model.specs.Contents.{entriesAt}
 use Rattle.bucket_model.specs.Sound.{sound}
 use Rattle.bucket_model.proofs.ByteForm.{decode-bucket}

@@ -1,17 +1,14 @@
 -- A table with nothing held: its bytes, and that it is sound. Assumes nothing.
-use mathlib.Core.Path.{_≡_, refl, sym, ap, _∙_}
-use mathlib.Core.Bool.{Bool, true}
-use mathlib.Core.List.{List, [], _∷_, _++_, append-assoc, flatMap}
+use mathlib.Core.Path.{_≡_, refl, ap, _∙_}
+use mathlib.Core.List.{_∷_, _++_, flatMap}
 use Prim.Native.Nat.{ℕ, zero, suc, _+_, _*_, _≤_, _<_}
 use native.Mathlib.Omega.{arith}
-use lib.ListN.{length, getD, replicate, length-append, length-replicate, getD-replicate, replicate-append-replicate}
-use Rattle.octets.specs.Octets.{Bytes, store, bigEndian}
-use Rattle.octets.proofs.Laws.{length-bigEndian}
+use lib.ListN.{length, replicate, length-replicate, getD-replicate, replicate-append-replicate}
+use Rattle.octets.specs.Octets.{Bytes}
 use Rattle.distance.specs.Distance.{home}
-use Rattle.bucket_model.specs.Contents.{Contents, noContents, encodeEntries, encodeList, encodeBucket}
+use Rattle.bucket_model.specs.Contents.{noContents, encodeEntries, encodeList, encodeBucket}
 use Rattle.bucket_model.proofs.Kept.{sound-fresh}
-use Rattle.table_model.specs.Layout.{encodeHeader, encodeTable, numberOf}
-use Rattle.table_model.proofs.Records.{store-middle}
+use Rattle.table_model.specs.Layout.{numberOf}
 use Rattle.table_model.proofs.Sound.{SoundTable}
 
 -- an empty bucket is zeros

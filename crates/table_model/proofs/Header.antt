@@ -1,13 +1,13 @@
 -- Laws of the table's header: what is read from it, and what it is where its bytes are sound. Assumes nothing.
 use mathlib.Core.Path.{_≡_, refl, sym, ap, _∙_}
 use mathlib.Core.Bool.{true, false, _&&_}
-use mathlib.Core.List.{List, [], _∷_, _++_, append-assoc, append-nil}
-use Prim.Native.Nat.{ℕ, _+_, _*_, _^_, _≤_, _<_}
+use mathlib.Core.List.{[], _++_, append-assoc}
+use Prim.Native.Nat.{ℕ, _+_, _^_, _≤_, _<_}
 use native.Mathlib.Omega.{arith}
 use borrow.Author.Tests.{leb-true, eqb-true, le-leb, eq-eqb}
 use lib.Dec.{eqb, leb}
 use lib.ListN.{length, take, drop, replicate, length-append, length-replicate, take-append-drop}
-use lib.Seq.{take-add, drop-drop}
+use lib.Seq.{take-add}
 use Rattle.octets.specs.Octets.{Bytes, IsBytes, part, store, number, bigEndian, sameBytes}
 use Rattle.octets.proofs.Laws.{part-middle, length-part, bytes-part, length-bigEndian, number-bigEndian, bigEndian-number, same-eq, same-refl}
 use Rattle.lists.proofs.Laws.{byTest, and-left, and-right}

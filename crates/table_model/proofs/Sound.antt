@@ -2,7 +2,7 @@
 use mathlib.Core.Path.{_≡_, refl, sym, ap, _∙_}
 use mathlib.Core.Bool.{Bool, true, false, _&&_}
 use mathlib.Core.List.{List, [], _∷_, _++_, flatMap}
-use Prim.Native.Nat.{ℕ, zero, suc, _+_, _*_, _^_, _≤_, _<_}
+use Prim.Native.Nat.{ℕ, zero, suc, _+_, _^_, _≤_, _<_}
 use native.Mathlib.Nat.{add-zero}
 use native.Mathlib.Omega.{arith}
 use borrow.Author.Tests.{leb-true, eqb-true, eqb-false}
@@ -21,7 +21,7 @@ use Rattle.bucket_model.proofs.Exact.{sound-has-form}
 use Rattle.bucket_model.proofs.Sound.{BucketSound}
 use Rattle.bucket_model.proofs.Every.{Every}
 use Rattle.bucket_model.proofs.Values.{sound-contents, sound-encoded, decoded-sound}
-use Rattle.table_model.specs.Layout.{encodeHeader, encodeTable, tabulate, offsetOf, numberOf, ownOf, clockOf, countOf, bucketBytes, bucketAt, bucketsOf, headerSound}
+use Rattle.table_model.specs.Layout.{encodeHeader, encodeTable, offsetOf, numberOf, ownOf, clockOf, countOf, bucketBytes, bucketAt, bucketsOf, headerSound}
 use Rattle.table_model.specs.Sound.{allBelow, bucketSound, bucketsSound, tableSound}
 use Rattle.table_model.proofs.Records.{flatMap-tabulate}
 use Rattle.table_model.proofs.Header.{HeaderSound, header-sound, sound-header, header-form}

@@ -9,7 +9,6 @@ use lib.Dec.{ltb}
 use lib.ListN.{length, getD, set, replicate, length-append, length-set}
 use Rattle.octets.specs.Octets.{Bytes, part, store, bigEndian}
 use Rattle.octets.proofs.Laws.{part-store-before, part-store-after, part-store}
-use Rattle.lists.specs.Lists.{All}
 use Rattle.lists.proofs.Laws.{byTest}
 use Rattle.bucket_model.specs.Contents.{Contents, noContents, encodeBucket, decodeBucket}
 use Rattle.table_model.specs.Layout.{encodeHeader, encodeTable, offsetOf, ownOf, clockOf, countOf, bucketBytes, bucketAt, bucketsOf}

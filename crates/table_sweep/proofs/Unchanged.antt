@@ -1,8 +1,8 @@
 -- A sweep that removes nothing changes nothing. Assumes nothing.
-use mathlib.Core.Path.{_≡_, refl, sym, ap, _∙_}
+use mathlib.Core.Path.{_≡_, refl, ap, _∙_}
 use mathlib.Core.Bool.{Bool, true, false, _&&_}
-use mathlib.Core.List.{List, [], _∷_, _++_, append-nil}
-use Prim.Native.Nat.{ℕ, _-_, _≤_, _<_}
+use mathlib.Core.List.{List, [], _∷_, append-nil}
+use Prim.Native.Nat.{ℕ, _-_}
 use native.Mathlib.Omega.{arith}
 use borrow.Author.Tests.{ltb-true, ltb-false, le-ltb}
 use lib.Dec.{ltb}
@@ -12,7 +12,7 @@ use Rattle.lists.specs.Lists.{select, all, All}
 use Rattle.lists.proofs.Laws.{byTest, and-left, and-right}
 use Rattle.entry.specs.declared.Entry.{Entry}
 use Rattle.bucket_model.specs.Contents.{Contents}
-use Rattle.bucket_model.specs.Rules.{isProved, staysEntry, staysReplacement, promoted, remaining, freeAfter, onSweep}
+use Rattle.bucket_model.specs.Rules.{isProved, staysEntry, staysReplacement, promoted, remaining, onSweep}
 use Rattle.bucket_model.proofs.Sound.{BucketSound}
 
 select-all : (q : Entry → Bool) (l : List Entry) → all q l ≡ true → select q l ≡ l

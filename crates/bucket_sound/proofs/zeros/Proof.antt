@@ -1,52 +1,34 @@
--- `bucket_sound::zeros` meets its contract. The invariant: the answer is that of the bytes from i on. Assumes nothing.
+-- `bucket_sound::zeros` meets its contract. The invariant: the answer is that of the bytes passed and of those from i on. Assumes nothing.
 use mathlib.Core.Path.{_≡_, refl, sym, _∙_}
+use mathlib.Core.Bool.{_&&_}
 use Prim.Native.Nat.{_+_, _-_, _≤_}
 use native.Mathlib.Omega.{arith}
-use borrow.Author.Tests.{eq-eqb, ne-eqb}
+use lib.Dec.{eqb}
 use lib.ListN.{replicate}
 use Rattle.octets.specs.Octets.{part, sameBytes}
-use Rattle.bucket_sound.proofs.Steps.{zeros-start, zeros-left, zeros-end, goes-on, stops}
+use Rattle.bucket_sound.proofs.Steps.{zeros-start, zeros-turn, zeros-done}
 use Rattle.bucket_sound.proofs.zeros.Statement.{statement}
 use Rattle.bucket_sound.proofs.zeros.Tie as tie
 
 abbrev Inv-loop : tie.InvT-loop
-Inv-loop bytes at n i₀ i = (i ≤ n) × (sameBytes (replicate n 0) (part bytes at n) ≡ sameBytes (replicate (n - i) 0) (part bytes (at + i) (n - i)))
+Inv-loop bytes at n any₀ i₀ any i =
+    (i ≤ n) × ((eqb any 0 && sameBytes (replicate (n - i) 0) (part bytes (at + i) (n - i))) ≡ sameBytes (replicate n 0) (part bytes at n))
 
 abbrev μ-loop : tie.MeasureT-loop
-μ-loop bytes at n i₀ i = n - i
-
-loop-holds : tie.Need-loop-holds Inv-loop μ-loop
-loop-holds c = (omega arith, zeros-start (c .args .bytes .now) (c .args .at) (c .args .n))
-
-add-if1 : tie.Need-add-if1 Inv-loop μ-loop
-add-if1 c = omega arith
-
-shared-slice-read-if1 : tie.Need-shared-slice-read-if1 Inv-loop μ-loop
-shared-slice-read-if1 c = omega arith
-
-returns : tie.Need-returns Inv-loop μ-loop
-returns c = let at-loop = c .before .before .before in
-    let args = at-loop .before .args in
-    stops (sameBytes (replicate (args .n - (at-loop .loop .i + 1)) 0) (part (args .bytes .now) (args .at + (at-loop .loop .i + 1)) (args .n - (at-loop .loop .i + 1))))
-    (at-loop .loop .inv .1) (zeros-left (args .bytes .now) (args .at) (args .n) (at-loop .loop .i) (at-loop .before .pre) (omega arith)) refl (ne-eqb 0 _ (λ e. c .if1 .taken (sym e)))
-
-add-i : tie.Need-add-i Inv-loop μ-loop
-add-i c = omega arith
-
-loop-less : tie.Need-loop-less Inv-loop μ-loop
-loop-less c = omega arith
+μ-loop bytes at n any₀ i₀ any i = n - i
 
 loop-again : tie.Need-loop-again Inv-loop μ-loop
-loop-again c = let at-loop = c .before .before .before in
-    let args = at-loop .before .args in (
-      omega arith,
-      goes-on (at-loop .loop .inv .1) (zeros-left (args .bytes .now) (args .at) (args .n) (at-loop .loop .i) (at-loop .before .pre) (omega arith)) refl (eq-eqb 0 _ (sym (c .if1 .left))),
-    )
+loop-again c =
+    let at-loop = c .before .before in
+    let start = at-loop .before in
+    let args = start .args in
+    (omega arith, zeros-turn (args .bytes .now) (args .at) (args .n) (at-loop .loop .i) (at-loop .loop .any) (start .pre) (omega arith) ∙ at-loop .loop .inv .1)
 
-returns-2 : tie.Need-returns-2 Inv-loop μ-loop
-returns-2 c = let at-loop = c .before in
+returns : tie.Need-returns Inv-loop μ-loop
+returns c =
+    let at-loop = c .before in
     let args = at-loop .before .args in
-    sym (at-loop .loop .inv .1 ∙ zeros-end (args .bytes .now) (args .at) (args .n) (at-loop .loop .i) (omega arith))
+    sym (zeros-done (args .bytes .now) (args .at) (args .n) (at-loop .loop .i) (at-loop .loop .any) (omega arith)) ∙ at-loop .loop .inv .1
 
 pub zeros-spec : {M : Type 1} → statement M
 zeros-spec =
@@ -54,11 +36,10 @@ zeros-spec =
     (tie.spec
     Inv-loop
     μ-loop
-    loop-holds
-    add-if1
-    shared-slice-read-if1
-    returns
-    add-i
-    loop-less
+    (λ c. (omega arith, sym (zeros-start (c .args .bytes .now) (c .args .at) (c .args .n))))
+    (λ c. omega arith)
+    (λ c. omega arith)
+    (λ c. omega arith)
+    (λ c. omega arith)
     loop-again
-    returns-2)
+    returns)

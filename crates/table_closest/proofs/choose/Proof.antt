@@ -1,16 +1,14 @@
 -- `table_closest::choose` meets its contract. The invariant: the buckets from `slot` on are sound, and `best` is theirs. Assumes nothing.
-use mathlib.Core.Path.{_≡_, refl, sym, ap, _∙_}
-use mathlib.Core.Bool.{true, false}
-use Prim.Native.Nat.{ℕ, _+_, _-_, _≤_, _<_}
+use mathlib.Core.Path.{_≡_, sym, ap, _∙_}
+use mathlib.Core.Bool.{true}
+use Prim.Native.Nat.{_-_, _≤_}
 use native.Mathlib.Omega.{arith}
 use borrow.Author.Needs.{needs}
 use borrow.Author.Tests.{not-true, not-false}
 use mathlib.Core.List.{[]}
-use lib.ListN.{length, drop}
-use Rattle.octets.specs.Octets.{Bytes}
-use Rattle.nearest.specs.Nearest.{farness, Ordered}
+use lib.ListN.{drop}
 use Rattle.nearest.proofs.Held.{ordered-all}
-use Rattle.table_model.specs.Layout.{countOf, bucketsOf, bucketAt}
+use Rattle.table_model.specs.Layout.{countOf, bucketsOf}
 use Rattle.table_model.specs.Sound.{bucketSound}
 use Rattle.table_model.proofs.Header.{HeaderSound, header-sound}
 use Rattle.table_model.proofs.Home.{slot-is}

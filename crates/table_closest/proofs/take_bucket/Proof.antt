@@ -1,6 +1,6 @@
 -- `table_closest::take_bucket` meets its contract. Assumes nothing.
-use mathlib.Core.Path.{_≡_, refl, sym, ap, _∙_}
-use mathlib.Core.Bool.{true, false}
+use mathlib.Core.Path.{_≡_, sym, ap, _∙_}
+use mathlib.Core.Bool.{true}
 use Prim.Native.Nat.{ℕ, _+_, _≤_}
 use native.Mathlib.Omega.{arith}
 use borrow.Author.Needs.{needs}
@@ -9,7 +9,7 @@ use lib.ListN.{take, getD}
 use Rattle.bucket_model.specs.Sound.{sound}
 use Rattle.nearest.specs.Sort.{insertAll}
 use Rattle.nearest.specs.Nearest.{farness, holding, held}
-use Rattle.table_model.specs.Layout.{offsetOf, bucketBytes, bucketAt}
+use Rattle.table_model.specs.Layout.{offsetOf, bucketBytes}
 use Rattle.table_model.specs.Sound.{anywhere}
 use Rattle.table_closest.specs.Closest.{candidatesOf}
 use Rattle.table_closest.proofs.Take.{not-taken, counts, entries-are, taken}

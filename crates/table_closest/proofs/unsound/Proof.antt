@@ -1,5 +1,5 @@
 -- `table_closest::unsound` meets its contract. Assumes nothing.
-use mathlib.Core.Path.{_≡_, ap}
+use mathlib.Core.Path.{ap}
 use mathlib.Core.Bool.{false}
 use borrow.Author.Needs.{needs}
 use Rattle.table_closest.specs.declared.Chosen.{Chosen}

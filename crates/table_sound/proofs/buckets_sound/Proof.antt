@@ -1,11 +1,10 @@
 -- `table_sound::buckets_sound` meets its contract. The invariant: each bucket passed is sound. Assumes nothing.
-use mathlib.Core.Path.{_≡_, sym, ap, _∙_}
-use mathlib.Core.Bool.{true, false}
+use mathlib.Core.Path.{_≡_, sym, _∙_}
+use mathlib.Core.Bool.{true}
 use Prim.Native.Nat.{ℕ, _-_, _≤_, _<_}
 use native.Mathlib.Omega.{arith}
 use borrow.Author.Count.{below-more}
 use borrow.Author.Tests.{not-true, not-false}
-use lib.ListN.{length}
 use Rattle.table_model.specs.Layout.{countOf}
 use Rattle.table_model.specs.Sound.{bucketSound, bucketsSound}
 use Rattle.table_model.proofs.Header.{HeaderSound, header-sound}

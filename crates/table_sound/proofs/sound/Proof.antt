@@ -1,6 +1,6 @@
 -- `table_sound::sound` meets its contract. Assumes nothing.
-use mathlib.Core.Path.{_≡_, sym, ap, _∙_}
-use mathlib.Core.Bool.{true, false, _&&_}
+use mathlib.Core.Path.{sym, ap, _∙_}
+use mathlib.Core.Bool.{_&&_}
 use borrow.Author.Needs.{needs}
 use Rattle.table_model.specs.Sound.{bucketsSound, tableSound}
 use Rattle.table_sound.proofs.sound.Statement.{statement}

@@ -1,6 +1,6 @@
 -- `table_sweep::all_stay` meets its contract. The invariant: `stay` is the test of the entries from i on. Assumes nothing.
-use mathlib.Core.Path.{_≡_, refl, sym, ap, _∙_}
-use Prim.Native.Nat.{ℕ, _≤_}
+use mathlib.Core.Path.{_≡_, sym, ap, _∙_}
+use Prim.Native.Nat.{_≤_}
 use native.Mathlib.Omega.{arith}
 use Rattle.lists.specs.Lists.{all}
 use Rattle.table_model.proofs.Entries.{behind, behind-none, behind-all, all-turn}

@@ -1,13 +1,12 @@
 -- `table_sweep::sweep` meets its contract. Assumes nothing.
 use mathlib.Core.Path.{_≡_, sym, _∙_}
-use mathlib.Core.Bool.{true, false}
-use Prim.Native.Nat.{ℕ, _≤_, _<_}
+use mathlib.Core.Bool.{true}
+use Prim.Native.Nat.{_≤_}
 use native.Mathlib.Omega.{arith}
 use borrow.Author.Needs.{needs}
 use borrow.Author.Tests.{not-true, not-false}
 use lib.ListN.{length}
 use Rattle.octets.specs.Octets.{Bytes}
-use Rattle.table_model.specs.Layout.{clockOf}
 use Rattle.table_model.specs.Sound.{tableSound}
 use Rattle.table_model.proofs.Sound.{table-header}
 use Rattle.table_sweep.proofs.Model.{sweep-unsound, sweep-back, sweep-end}

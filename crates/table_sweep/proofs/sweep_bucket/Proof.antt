@@ -1,6 +1,6 @@
 -- `table_sweep::sweep_bucket` meets its contract. Assumes nothing.
-use mathlib.Core.Path.{_≡_, sym, _∙_}
-use Prim.Native.Nat.{ℕ, _+_, _≤_}
+use mathlib.Core.Path.{sym, _∙_}
+use Prim.Native.Nat.{_+_, _≤_}
 use borrow.Author.Needs.{needs}
 use lib.ListN.{getD}
 use Rattle.table_model.specs.Sound.{anywhere}

@@ -1,16 +1,14 @@
 -- `table_sweep::sweep_buckets` meets its contract. The invariant: the first i buckets are swept. Assumes nothing.
-use mathlib.Core.Path.{_≡_, refl, sym, ap, _∙_}
-use mathlib.Core.Bool.{true}
-use Prim.Native.Nat.{ℕ, _+_, _-_, _^_, _≤_, _<_}
+use mathlib.Core.Path.{_≡_, sym, ap, _∙_}
+use Prim.Native.Nat.{_-_, _^_, _≤_, _<_}
 use native.Mathlib.Omega.{arith}
 use borrow.Author.Needs.{needs}
 use mir.Syntax.{w64}
 use mir.Val.{Fits}
 use lib.ListN.{length}
-use Rattle.octets.specs.Octets.{Bytes, IsBytes}
+use Rattle.octets.specs.Octets.{IsBytes}
 use Rattle.bucket_model.specs.Rules.{onSweep}
-use Rattle.table_model.specs.Layout.{encodeTable, offsetOf, ownOf, clockOf, countOf, bucketsOf}
-use Rattle.table_model.specs.Sound.{tableSound}
+use Rattle.table_model.specs.Layout.{encodeTable, ownOf, clockOf, countOf, bucketsOf}
 use Rattle.table_model.proofs.Table.{count-read}
 use Rattle.table_model.proofs.Sound.{SoundTable, table-header, sound-is-table, table-of-sound}
 use Rattle.table_sweep.proofs.Swept.{changed, changed-all, next-fits, next-sound, swept-turn, swept-length}
