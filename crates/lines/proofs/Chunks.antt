@@ -1,10 +1,9 @@
 -- The lines of a log do not depend on how it is cut into chunks. Assumes nothing.
 use Prim.Native.Nat.{ℕ, zero, suc, _+_, _-_, _≤_, _<_}
-use mathlib.Core.Path.{_≡_, refl, sym, ap, _∙_}
-use mathlib.Core.Bool.{Bool, true, false, cond}
+use mathlib.Core.Path.{_≡_, sym, ap, _∙_}
 use mathlib.Core.List.{List, [], _∷_, _++_, map}
 use native.Mathlib.Omega.{arith}
-use borrow.Author.Tests.{ltb-true, ltb-false}
+use borrow.Author.Tests.{ltb-true}
 use lib.Dec.{ltb}
 use lib.ListN.{length, take, drop}
 use Rattle.octets.specs.Octets.{Bytes}
@@ -12,8 +11,8 @@ use Rattle.lists.proofs.Laws.{byTest}
 use Rattle.lines.specs.declared.Begun.{Begun}
 use Rattle.lines.specs.declared.Step.the-variants.{Line, TooLong, More}
 use Rattle.lines.specs.Lines.{linesOf, limit, Held, whole, tooLong, held, toCome}
-use Rattle.lines.specs.Steps.{piece, grown, fresh, ended, stepOf, bufferAfter, lastOf}
-use Rattle.lines.specs.Feeding.{heldIn, Room, told, toldLast, Feeds, line, long, on, end, join}
+use Rattle.lines.specs.Steps.{piece, grown, fresh, ended, stepOf, bufferAfter}
+use Rattle.lines.specs.Feeding.{heldIn, Room, told, Feeds, line, long, on, end, join}
 use Rattle.lines.proofs.Laws.{all-to-come, step-told, last-told, length-added, grown-size}
 
 -- the bytes of the chunk that a step takes, but for 0A

@@ -1,11 +1,10 @@
 -- Laws of the lines still to come: what a step and the log's end tell of them. Assumes nothing.
-use Prim.Native.Nat.{ℕ, zero, suc, _+_, _-_, _≤_, _<_}
+use Prim.Native.Nat.{ℕ, suc, _+_, _-_, _≤_, _<_}
 use mathlib.Core.Path.{_≡_, refl, sym, ap, _∙_}
-use mathlib.Core.Bool.{Bool, true, false, cond, not, _&&_}
+use mathlib.Core.Bool.{true, false, not}
 use mathlib.Core.List.{List, [], _∷_, _++_, map, append-assoc, append-nil}
-use native.Mathlib.Numerals.{add-one}
 use native.Mathlib.Omega.{arith}
-use borrow.Author.Tests.{lt-ltb, le-ltb, le-leb, lt-leb, ltb-true, ltb-false, leb-true, leb-false, eqb-true, eqb-false}
+use borrow.Author.Tests.{lt-ltb, le-ltb, ltb-true, leb-true, leb-false, eqb-true, eqb-false}
 use lib.Dec.{ltb, leb, eqb}
 use lib.ListN.{length, take, drop, length-append, length-drop}
 use lib.Seq.{append-snoc, length-take-le, take-at, drop-append-add, drop-drop}
@@ -14,10 +13,10 @@ use Rattle.octets.proofs.Laws.{store-eq, length-store}
 use Rattle.lists.specs.Lists.{empty}
 use Rattle.lists.proofs.Laws.{byTest, and-right}
 use Rattle.lines.specs.declared.Begun.{Begun}
-use Rattle.lines.specs.Lines.{linesFrom, linesOf, limit, Held, whole, tooLong, held, longer, nothing, toCome}
-use Rattle.lines.specs.Steps.{piece, fits, grown, added, fresh, ended, stepOf, bufferAfter, lastOf}
+use Rattle.lines.specs.Lines.{linesFrom, limit, Held, whole, tooLong, held, longer, nothing, toCome}
+use Rattle.lines.specs.Steps.{piece, fits, grown, added, stepOf, bufferAfter, lastOf}
 use Rattle.lines.specs.Feeding.{heldIn, Room, told, toldLast}
-use Rattle.lines.proofs.Pieces.{Ends, here, newline, ends, piece-within}
+use Rattle.lines.proofs.Pieces.{Ends, here, newline, ends}
 
 -- ---- what is still to come, of the whole log
 

@@ -1,13 +1,13 @@
 -- Laws of the bytes before the next 0A. Assumes nothing.
-use Prim.Native.Nat.{ℕ, suc, _+_, _≤_, _<_}
-use mathlib.Core.Path.{_≡_, refl, sym, ap, _∙_}
-use mathlib.Core.Bool.{Bool, true, false}
-use mathlib.Core.List.{List, [], _∷_, _++_}
+use Prim.Native.Nat.{ℕ, _+_, _≤_, _<_}
+use mathlib.Core.Path.{_≡_, refl, ap, _∙_}
+use mathlib.Core.Bool.{false}
+use mathlib.Core.List.{[], _∷_, _++_}
 use native.Mathlib.Numerals.{add-one}
 use native.Mathlib.Omega.{arith}
 use borrow.Author.Tests.{eq-eqb, ne-eqb, eqb-true}
 use lib.Dec.{eqb}
-use lib.ListN.{length, getD, take, drop, length-append, drop-of-length-le}
+use lib.ListN.{length, getD, take, drop, drop-of-length-le}
 use lib.Seq.{drop-cons, take-at, take-length}
 use Rattle.octets.specs.Octets.{Bytes}
 use Rattle.lists.proofs.Laws.{byTest}
@@ -48,10 +48,4 @@ pub take-piece : (s : Bytes) → take (length (piece s)) s ≡ piece s
 take-piece s = elim (ends s) [
   | here p ↦ ap (take (length (piece s))) p ∙ take-length (piece s)
   | newline t p ↦ ap (take (length (piece s))) p ∙ take-at (piece s) (10 ∷ t) (length (piece s)) refl
-]
-
-pub piece-within : (s : Bytes) → length (piece s) ≤ length s
-piece-within s = elim (ends s) [
-  | here p ↦ omega (arith, ap length p)
-  | newline t p ↦ omega (arith, ap length p, length-append (piece s) (10 ∷ t))
 ]

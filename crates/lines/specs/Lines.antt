@@ -1,6 +1,6 @@
 -- The lines of a log. Document 01: "Lines end in 0A, [..] at most 3,000 bytes without the 0A", "A last line without 0A is read too".
 use Prim.Native.Nat.{ℕ}
-use mathlib.Core.Bool.{Bool, true, false, cond}
+use mathlib.Core.Bool.{Bool, false, cond}
 use mathlib.Core.List.{List, [], _∷_, _++_}
 use lib.Dec.{ltb, eqb}
 use lib.ListN.{length}

@@ -1,10 +1,8 @@
 -- One step of the splitter: from an index of a chunk up to the next 0A or the chunk's end.
 use Prim.Native.Nat.{ℕ, _+_, _-_}
-use mathlib.Core.Path.{_≡_}
 use mathlib.Core.Bool.{Bool, true, false, cond, not, _&&_}
-use mathlib.Core.List.{List, [], _∷_, _++_}
 use lib.Dec.{ltb, leb, eqb}
-use lib.ListN.{length, take, drop}
+use lib.ListN.{length, drop}
 use Rattle.octets.specs.Octets.{Bytes, store}
 use Rattle.lists.specs.Lists.{before}
 use Rattle.lines.specs.Lines.{limit}

@@ -1,21 +1,19 @@
 -- Laws of decimals: how a decimal is made, and that it reads back, both ways. Assumes nothing.
 use Prim.Native.Nat.{ℕ, zero, suc, _+_, _-_, _*_, _/_, _%_, _^_, _≤_, _<_}
 use mathlib.Core.Path.{_≡_, refl, sym, ap, _∙_}
-use mathlib.Core.Bool.{Bool, true, false, cond, _&&_}
-use mathlib.Core.List.{List, [], _∷_, _++_, append-nil, append-assoc}
+use mathlib.Core.Bool.{true, false, _&&_}
+use mathlib.Core.List.{[], _∷_, _++_, append-nil}
 use native.Mathlib.Nat.{pow-suc, div-lt-iff-lt-mul, zero-lt-suc}
 use native.Mathlib.Decide.{decLt}
 use native.Mathlib.Omega.{arith}
-use borrow.Author.Tests.{lt-ltb, le-ltb, le-leb, lt-leb, eq-eqb, ne-eqb, leb-true, eqb-true, eqb-false}
+use borrow.Author.Tests.{lt-ltb, le-ltb, le-leb, eq-eqb, ne-eqb, leb-true}
 use lib.Arith.{digits-div, digits-mod}
-use lib.Dec.{ltb, leb, eqb}
+use lib.Dec.{leb, eqb}
 use lib.ListN.{length, getD, set, length-append}
 use lib.Seq.{append-snoc}
 use Rattle.octets.specs.Octets.{Bytes, store}
 use Rattle.octets.proofs.Laws.{store-last}
-use Rattle.lists.specs.Lists.{empty}
 use Rattle.lists.proofs.Laws.{byTest, never, and-left, and-right}
-use Rattle.text.specs.declared.Decimal.{Decimal}
 use Rattle.text.specs.declared.Decimal.the-variants.{Value, NotDecimal}
 use Rattle.text.specs.Decimals.{digits, decimal, isDigit, digitsFrom, wellBegun, decimalOf}
 

@@ -1,13 +1,13 @@
 -- Laws of hex: what is written reads back, and what is read is the hex of those bytes. Assumes nothing.
-use Prim.Native.Nat.{ℕ, zero, suc, _+_, _-_, _*_, _/_, _%_, _≤_, _<_}
+use Prim.Native.Nat.{ℕ, zero, suc, _+_, _*_, _/_, _%_, _≤_, _<_}
 use mathlib.Core.Path.{_≡_, refl, sym, ap, _∙_}
-use mathlib.Core.Bool.{Bool, true, false, cond, not, _&&_, _||_}
-use mathlib.Core.List.{List, [], _∷_, _++_}
+use mathlib.Core.Bool.{true, false, not, _&&_}
+use mathlib.Core.List.{[], _∷_, _++_}
 use mathlib.Core.Logic.{_⊎_, inl, inr, ⊎-elim}
 use native.Mathlib.Decide.{decLt}
 use native.Mathlib.Omega.{arith}
 use native.Mathlib.Numerals.{add-one}
-use borrow.Author.Tests.{lt-ltb, le-ltb, le-leb, lt-leb, leb-true, leb-false}
+use borrow.Author.Tests.{lt-ltb, le-ltb, le-leb, lt-leb, leb-true}
 use lib.Arith.{digits-div, digits-mod}
 use lib.Dec.{ltb, leb}
 use lib.ListN.{length, getD, take, drop, set, drop-of-length-le}
@@ -118,7 +118,7 @@ store-hex s src at i next h e =
     let b : ℕ = getD src i 0 in
     let more : hex (take (i + 1) src) ≡ hex (take i src) ++ hexDigit (b / 16) ∷ hexDigit (b % 16) ∷ [] =
     rw add-one (ap hex (take-suc src i 0 h) ∙ hex-append (take i src) (b ∷ [])) in
-    rw (e, add-one) (sym (ap (λ (v : Bytes). store s at v) more ∙ store-append (hex (take i src)) (hexDigit (b / 16) ∷ hexDigit (b % 16) ∷ []) s at))
+    rw (e, add-one (at + length (hex (take i src)))) (sym (ap (λ (v : Bytes). store s at v) more ∙ store-append (hex (take i src)) (hexDigit (b / 16) ∷ hexDigit (b % 16) ∷ []) s at))
 
 pub unhex-at : (s : Bytes) (i : ℕ) → i < length s / 2 → getD (unhex s) i 0 ≡ hexValue (getD s (2 * i) 0) * 16 + hexValue (getD s (2 * i + 1) 0)
 unfolding unhex

@@ -1,5 +1,4 @@
 -- `lines::next_line` meets its contract. Assumes nothing.
-use mathlib.Core.Path.{_≡_}
 use Rattle.lines.proofs.Steps.{buffer-is, step-more, step-long, step-line}
 use borrow.Author.Needs.{needs}
 use native.Mathlib.Omega.{arith}

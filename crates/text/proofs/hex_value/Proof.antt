@@ -1,5 +1,5 @@
 -- `text::hex_value` meets its contract. Assumes nothing.
-use mathlib.Core.Path.{_≡_, sym}
+use mathlib.Core.Path.{sym}
 use borrow.Author.Tests.{lt-ltb, le-ltb}
 use Rattle.text.specs.Hex.{hexValue}
 use borrow.Author.Needs.{needs}

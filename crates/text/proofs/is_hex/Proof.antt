@@ -1,9 +1,9 @@
 -- `text::is_hex` meets its contract. The invariant: what is left decides. Assumes nothing.
 use Prim.Native.Nat.{_-_, _≤_}
-use mathlib.Core.Path.{_≡_, refl, sym, ap, _∙_}
+use mathlib.Core.Path.{_≡_, sym, _∙_}
 use borrow.Author.Tests.{not-true, not-false}
 use lib.ListN.{length, drop}
-use Rattle.text.specs.Hex.{isHexDigit, hexPairs, isHex}
+use Rattle.text.specs.Hex.{hexPairs, isHex}
 use Rattle.text.proofs.Hex.{pairs-on, pairs-first, pairs-second, pairs-odd, pairs-end, hex-empty, hex-some}
 use borrow.Author.Needs.{needs}
 use native.Mathlib.Omega.{arith}

@@ -1,7 +1,7 @@
 -- `text::put_hex` meets its contract. The invariant: the hex of the first i bytes is stored. Assumes nothing.
-use Prim.Native.Nat.{ℕ, _+_, _*_, _-_, _≤_}
-use mathlib.Core.Path.{_≡_, refl, sym, ap, _∙_}
-use lib.ListN.{length, take, length-take, length-set}
+use Prim.Native.Nat.{_+_, _*_, _-_, _≤_}
+use mathlib.Core.Path.{_≡_, refl, ap, _∙_}
+use lib.ListN.{length, take, length-set}
 use lib.Seq.{take-all, length-take-le}
 use Rattle.octets.specs.Octets.{store}
 use Rattle.octets.proofs.Laws.{length-store}

@@ -1,8 +1,8 @@
 -- `text::put_unhex` meets its contract. The invariant: the first i bytes are stored. Assumes nothing.
-use Prim.Native.Nat.{ℕ, _+_, _*_, _-_, _≤_}
+use Prim.Native.Nat.{_+_, _*_, _-_, _≤_}
 use mathlib.Core.Path.{_≡_, refl, sym, ap, _∙_}
 use lib.ListN.{length, getD, take}
-use lib.Seq.{take-all, length-take-le}
+use lib.Seq.{take-all}
 use Rattle.octets.specs.Octets.{store}
 use Rattle.octets.proofs.Laws.{length-store, store-take}
 use Rattle.text.specs.Hex.{unhex}

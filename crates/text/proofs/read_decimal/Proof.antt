@@ -1,5 +1,5 @@
 -- `text::read_decimal` meets its contract. Assumes nothing.
-use mathlib.Core.Path.{_≡_, sym, ap, _∙_}
+use mathlib.Core.Path.{sym, _∙_}
 use Rattle.text.specs.Decimals.{decimalOf}
 use borrow.Author.Needs.{needs}
 use Rattle.text.proofs.read_decimal.Statement.{statement}

@@ -1,5 +1,5 @@
 -- `text::well_begun` meets its contract. Assumes nothing.
-use mathlib.Core.Path.{_≡_, sym}
+use mathlib.Core.Path.{sym}
 use Rattle.text.proofs.Decimals.{begun-empty, begun-zero, begun-other}
 use borrow.Author.Needs.{needs}
 use native.Mathlib.Omega.{arith}

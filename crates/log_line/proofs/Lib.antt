@@ -1,0 +1,6 @@
+pub mod Spans
+pub mod Reading
+pub mod Found
+pub mod Laws
+pub mod Examples
+pub mod Parting
