@@ -1,0 +1,10 @@
+pub mod First
+pub mod Pong
+pub mod Packet
+pub mod Slots
+pub mod Delivery
+pub mod Touch
+pub mod Judging
+pub mod Datagram
+pub mod PingSent
+pub mod Answered
