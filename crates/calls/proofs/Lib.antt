@@ -8,3 +8,4 @@ pub mod Judging
 pub mod Datagram
 pub mod PingSent
 pub mod Answered
+pub mod Chosen

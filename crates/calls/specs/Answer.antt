@@ -43,11 +43,15 @@ headOf b = getD (b .entries) 0 noEntry
 abbrev pub standing : Bytes → Contents → Standing
 standing key b = cond (hasEntry key b) Tail (cond (freeEntry b) TookEntry (Waiting (headOf b .ping)))
 
+-- an entry's node record
+abbrev pub nodeOf : Entry → Node
+nodeOf e = record { key = e .key; endpoint = e .endpoint }
+
 -- the node that the answer names
 abbrev pub named : Standing → Entry → Node
 named Tail e = noNode
 named TookEntry e = noNode
-named (Waiting ping) e = record { key = e .key; endpoint = e .endpoint }
+named (Waiting ping) e = nodeOf e
 
 abbrev pub acceptedPong : Bytes → pong.Pong → Contents → Received
 acceptedPong key p b = record { outcome = Pong p (standing key b); head = named (standing key b) (headOf b) }

@@ -15,6 +15,8 @@ ghost use Rattle.history.specs.Model as model;
 ghost use Rattle.calls_model.specs.Calls.{answerOn, bytesAfter};
 ghost use Rattle.calls_model.specs.Reading.{packetReading, reading};
 ghost use Rattle.calls.specs.Answer as spec;
+ghost use Rattle.nearest.specs.Nearest.{holding};
+ghost use Rattle.calls.specs.Closest.{chosen, nodeIn};
 ghost use Rattle.calls.specs.Steps.{touchedSound, Below, reached, judgedAt, judged, keptPlace, placedAt, placed, isWrongKey, isOwnKey, keyTests, datagramTests, pingSentTests, keptSlot, afterReading, heldTests, SoundAt, withBucket, delivered, afterDelivery, noteNumber, afterNote};
 use bucket::Bucket;
 use bucket_lookup::Lookup;
@@ -24,6 +26,7 @@ use entry::MonotonicMillis;
 use entry::Node;
 use entry::PingState;
 use entry::UnixSeconds;
+use nearest::Nearest;
 use packets::EnrRequest;
 use packets::EnrResponse;
 use packets::FindNode;
@@ -78,9 +81,9 @@ pub fn number(received: Received) -> u8
     }
 }
 
-// An answer that names no node.
-fn plain(outcome: Outcome) -> Received
-    ensures { λ r. ⌜ r ≡ spec.plain outcome ⌝ }
+// A node of zeros.
+fn no_node() -> Node
+    ensures { λ r. ⌜ r ≡ spec.noNode ⌝ }
 {
     let endpoint = Endpoint {
         len: 0,
@@ -88,21 +91,35 @@ fn plain(outcome: Outcome) -> Received
         udp: 0,
         tcp: 0,
     };
-    let head = Node {
+    Node {
         key: [0; 64],
         endpoint,
-    };
+    }
+}
+
+// An entry's node record.
+fn node_of(e: Entry) -> Node
+    ensures { λ r. ⌜ r ≡ spec.nodeOf e ⌝ }
+{
+    let key = e.key;
+    let endpoint = e.endpoint;
+    Node { key, endpoint }
+}
+
+// An answer that names no node.
+fn plain(outcome: Outcome) -> Received
+    ensures { λ r. ⌜ r ≡ spec.plain outcome ⌝ }
+{
+    let head = no_node();
     Received { outcome, head }
 }
 
 // The answer to the pong of a replacement that finds no free entry.
 fn waiting(p: Pong, e: Entry) -> Received
-    ensures { λ r. ⌜ r ≡ record { outcome = Outcome.Pong p (Standing.Waiting (e .ping)); head = record { key = e .key; endpoint = e .endpoint } } ⌝ }
+    ensures { λ r. ⌜ r ≡ record { outcome = Outcome.Pong p (Standing.Waiting (e .ping)); head = spec.nodeOf e } ⌝ }
 {
     let ping = e.ping;
-    let key = e.key;
-    let endpoint = e.endpoint;
-    let head = Node { key, endpoint };
+    let head = node_of(e);
     let outcome = Outcome::Pong(p, Standing::Waiting(ping));
     Received { outcome, head }
 }
@@ -620,4 +637,57 @@ pub fn sweep_on(table: &mut [u8], clock: MonotonicMillis) -> u8
     ensures { λ r. ⌜ now (table .exit) ≡ bytesAfter reading (now (table .entry)) (model.sweep (clock .0)) ⌝ }
 {
     table_sweep::sweep(table, clock)
+}
+
+// The entries nearest to a target, nearest first, or the answer number and none of them.
+pub struct Choice {
+    pub number: u8,
+    pub nearest: Nearest,
+}
+
+fn none_chosen(number: u8) -> Choice
+    ensures { λ r. ⌜ r ≡ record { number = number; nearest = holding [] } ⌝ }
+{
+    let nearest = Nearest::none();
+    Choice { number, nearest }
+}
+
+// The entries nearest to a target, for a list of `room` node records.
+pub fn closest_on(table: &[u8], target: &[u8], room: usize) -> Choice
+    ensures { λ r. ⌜ r ≡ chosen (now (table .entry)) (now (target .entry)) room ⌝ }
+{
+    let hash = keccak::keccak256(target);
+    let chosen = table_closest::closest(table, hash);
+    if !chosen.sound {
+        return none_chosen(1);
+    }
+    if target.len() != 64 {
+        return none_chosen(5);
+    }
+    if room < 16 {
+        return none_chosen(19);
+    }
+    let nearest = chosen.nearest;
+    Choice { number: 0, nearest }
+}
+
+// The node of the entry with this index, counted from the head, in the bucket in this slot; a node of zeros where there is none.
+pub fn node_in(table: &[u8], slot: usize, index: usize) -> Node
+    ensures { λ r. ⌜ r ≡ nodeIn (now (table .entry)) slot index ⌝ }
+{
+    if 256 <= slot {
+        return no_node();
+    }
+    let at = table::HEADER_SIZE + slot * table::BUCKET_SIZE;
+    if table.len() < at + table::BUCKET_SIZE {
+        return no_node();
+    }
+    let count = table[at] as usize;
+    if 16 < count {
+        return no_node();
+    }
+    if count <= index {
+        return no_node();
+    }
+    node_of(entry::load_entry(table, at + 2 + index * 143))
 }
