@@ -9,3 +9,4 @@ pub mod Datagram
 pub mod PingSent
 pub mod Answered
 pub mod Chosen
+pub mod Nodes

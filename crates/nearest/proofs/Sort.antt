@@ -2,7 +2,7 @@
 -- Assumes nothing.
 use mathlib.Core.Path.{_≡_, refl, sym, ap, _∙_}
 use mathlib.Core.Bool.{Bool, true, false, cond}
-use mathlib.Core.List.{List, [], _∷_, _++_}
+use mathlib.Core.List.{List, [], _∷_, _++_, map}
 use Prim.Native.Nat.{ℕ, zero, suc, _+_, _≤_, _<_}
 use native.Mathlib.Omega.{arith}
 use borrow.Author.Tests.{leb-true, leb-false, lt-leb, eqb-true}
@@ -14,7 +14,7 @@ use Rattle.lists.proofs.Laws.{byTest, All-imp}
 use Rattle.nearest.specs.Sort.{insertBy, insertAll, sortBy}
 
 module _ {A : Type 0} where
-  All-take : (P : A → Type 0) (n : ℕ) (l : List A) → All P l → All P (take n l)
+  pub All-take : (P : A → Type 0) (n : ℕ) (l : List A) → All P l → All P (take n l)
   All-take P zero l p = tt
   All-take P (suc n) [] p = tt
   All-take P (suc n) (a ∷ l) p = (p .0, All-take P n l (p .1))
@@ -75,6 +75,21 @@ module _ {A : Type 0} (f : A → ℕ) where
   insert-append [] m n = refl
   insert-append (a ∷ l) m n = ap (λ r. insertBy f a r) (insert-append l m n)
 
+  pub All-sort : (P : A → Type 0) (l : List A) → All P l → All P (sortBy f l)
+  unfolding insertAll
+  All-sort P [] p = tt
+  All-sort P (a ∷ l) p = All-insert P a (sortBy f l) (p .0) (All-sort P l (p .1))
+
+  length-insert : (a : A) (l : List A) → length (insertBy f a l) ≡ suc (length l)
+  unfolding insertBy
+  length-insert a [] = refl
+  length-insert a (b ∷ l) = byTest (leb (f a) (f b)) (λ h. rw h refl) (λ h. rw h (ap suc (length-insert a l)))
+
+  pub length-sort : (l : List A) → length (sortBy f l) ≡ length l
+  unfolding insertAll
+  length-sort [] = refl
+  length-sort (a ∷ l) = length-insert a (sortBy f l) ∙ ap suc (length-sort l)
+
   -- of each number, the same elements in the same order
   abbrev OfNumber : ℕ → List A → List A
   OfNumber n = select (λ b. eqb (f b) n)
@@ -129,3 +144,29 @@ module _ {A : Type 0} (f : A → ℕ) where
       let le : f b ≤ f (getD l j d) = All-at (λ c. f b ≤ f c) l j d (r .0) (omega arith) in
       let lower : leb (f a) (f b) ≡ false = lt-leb (f a) (f b) (omega (arith, leb-false (f a) (f (getD l j d)) h)) in
       rw lower (ap suc (place-after a l j d (r .1) (omega arith) h (λ i p q. g (suc i) (omega arith) (omega arith))))
+
+-- ---- sorting after a change of the elements that keeps their numbers
+
+module _ {A B : Type 0} (h : A → B) where
+  pub map-take : (n : ℕ) (l : List A) → map h (take n l) ≡ take n (map h l)
+  map-take zero l = refl
+  map-take (suc n) [] = refl
+  map-take (suc n) (a ∷ l) = ap (λ m. h a ∷ m) (map-take n l)
+
+module _ {A B : Type 0} (f : A → ℕ) (g : B → ℕ) (h : A → B) where
+  abbrev Kept : A → Type 0
+  Kept a = f a ≡ g (h a)
+
+  insert-map : (a : A) (l : List A) → Kept a → All Kept l → map h (insertBy f a l) ≡ insertBy g (h a) (map h l)
+  unfolding insertBy
+  insert-map a [] e p = refl
+  insert-map a (b ∷ l) e p =
+      let same : leb (f a) (f b) ≡ leb (g (h a)) (g (h b)) = cc (e, p .0) in
+      byTest (leb (f a) (f b))
+      (λ t. rw (t, sym same ∙ t) refl)
+      (λ t. rw (t, sym same ∙ t) (ap (λ m. h b ∷ m) (insert-map a l e (p .1))))
+
+  pub sort-map : (l : List A) → All (λ a. f a ≡ g (h a)) l → map h (sortBy f l) ≡ sortBy g (map h l)
+  unfolding insertAll
+  sort-map [] p = refl
+  sort-map (a ∷ l) p = insert-map a (sortBy f l) (p .0) (All-sort f Kept l (p .1)) ∙ ap (insertBy g (h a)) (sort-map l (p .1))
