@@ -3,6 +3,7 @@ ghost use mathlib.Core.Path.{_≡_};
 ghost use Rattle.counters.specs.Counters.{raised, cleared};
 
 // Document 01's tally: the calls since clearing that gave each answer number from 0 to 21.
+#[repr(C)]
 pub struct Counters {
     pub counts: [u32; 22],
 }

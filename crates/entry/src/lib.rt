@@ -31,6 +31,7 @@ pub struct Stamp {
 }
 
 // The first `len` bytes of `address` are the IP address.
+#[repr(C)]
 pub struct Endpoint {
     pub len: u8,
     pub address: [u8; 16],
@@ -39,6 +40,7 @@ pub struct Endpoint {
 }
 
 // A node record, as lists of nodes have it.
+#[repr(C)]
 pub struct Node {
     pub key: [u8; 64],
     pub endpoint: Endpoint,
