@@ -1,0 +1,3 @@
+pub mod Written
+pub mod Chosen
+pub mod Demand3

@@ -1,0 +1,3 @@
+pub mod Numbers
+pub mod Closest
+pub mod Demand3
