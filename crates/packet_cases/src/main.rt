@@ -10,8 +10,11 @@ ghost use Prim.Native.Nat.{_+_, _*_, _≤_};
 ghost use lib.ListN.{length};
 
 mod reading;
-mod text;
 
+use case_lines::Line;
+use case_lines::bytes_at;
+use case_lines::number;
+use case_lines::short;
 use entry::Endpoint;
 use entry::Node;
 use libc::STDIN_FILENO;
@@ -19,33 +22,6 @@ use libc::STDOUT_FILENO;
 use packet_items::EnrSeq;
 use packet_parts::NodeList;
 use packet_parts::Written;
-
-// The `n` bytes from index `at`; none where they do not lie inside.
-fn bytes_at(s: &[u8], at: usize, n: usize) -> &[u8]
-    ensures { λ r. ⌜ length (now r) ≤ n ⌝ }
-{
-    if s.len() < at {
-        return &s[0..0];
-    }
-    if s.len() - at < n {
-        return &s[0..0];
-    }
-    let end = at + n;
-    &s[at..end]
-}
-
-// The number in the `width` bytes from index `at`; 0 where they do not lie inside.
-fn number(s: &[u8], at: usize, width: usize) -> u64
-    requires { ⌜ width ≤ 8 ⌝ }
-{
-    let bytes = bytes_at(s, at, width);
-    octets::number_at(bytes, 0, bytes.len())
-}
-
-// The number in the two bytes from index `at`.
-fn short(s: &[u8], at: usize) -> u16 {
-    (number(s, at, 2) % 65536) as u16
-}
 
 fn enr_seq(s: &[u8]) -> EnrSeq {
     if number(s, 11, 1) == 0 {
@@ -65,7 +41,7 @@ fn node_at(s: &[u8], at: usize) -> Node {
         octets::get_bytes(&mut key, bytes, 21);
     }
     let endpoint = Endpoint {
-        len: (number(bytes, 0, 1) % 256) as u8,
+        len: case_lines::byte(bytes, 0),
         address,
         udp: short(bytes, 17),
         tcp: short(bytes, 19),
@@ -97,7 +73,7 @@ fn written(s: &[u8], room: &mut [u8]) -> Written {
     let first = bytes_at(s, 30, n);
     let second = bytes_at(s, 30 + n, short(s, 28) as usize);
     match kind {
-        1 => packet_writer::write_ping(
+        1 => discv4::write_ping(
             room,
             first,
             udp,
@@ -107,29 +83,21 @@ fn written(s: &[u8], room: &mut [u8]) -> Written {
             expiration,
             seq,
         ),
-        2 => packet_writer::write_pong(room, first, udp, second, expiration, seq),
-        3 => packet_writer::write_find_node(room, first, expiration),
-        4 => packet_writer::write_neighbors(room, nodes(s), expiration),
-        5 => packet_writer::write_enr_request(room, expiration),
-        6 => packet_writer::write_enr_response(room, first, second),
-        _ => packet_join::join(room, first, second),
-    }
-}
-
-fn code(w: Written) -> u64 {
-    match w {
-        Written::Done(_) => 0,
-        Written::Short => 19,
-        Written::Unwritable => 20,
+        2 => discv4::write_pong(room, first, udp, second, expiration, seq),
+        3 => discv4::write_find_node(room, first, expiration),
+        4 => discv4::write_neighbors(room, nodes(s), expiration),
+        5 => discv4::write_enr_request(room, expiration),
+        6 => discv4::write_enr_response(room, first, second),
+        _ => discv4::join(room, first, second),
     }
 }
 
 // Runs the writer of a case in this room.
 fn print_written(s: &[u8], room: &mut [u8]) {
     let answer = written(s, room);
-    io::print_decimal(STDOUT_FILENO, code(answer));
+    io::print_decimal(STDOUT_FILENO, discv4::written_number(answer) as u64);
     io::write_all(STDOUT_FILENO, b"\t");
-    text::print_hex(room);
+    case_lines::print_hex(room);
     io::write_all(STDOUT_FILENO, b"\n");
 }
 
@@ -151,56 +119,17 @@ fn run(s: &[u8]) {
     run_in(s, &mut buf);
 }
 
-// The value of a lower-case hex digit.
-fn value(b: u8) -> u8 {
-    if b < b'a' {
-        b % 16
-    } else {
-        (b - b'a') % 6 + 10
-    }
-}
-
-// What is read of a line: `n` bytes, and after an odd number of digits the last one.
-struct Line {
-    n: usize,
-    odd: bool,
-    half: u8,
-}
-
-// Takes one more byte of the input; a case that does not fit is cut.
+// Takes one more byte of the input.
 fn take(case: &mut [u8], line: Line, b: u8) -> Line
     requires { ⌜ line .n ≤ length (now case) ⌝ }
     ensures { λ r. ⌜ r .n ≤ length (now (case .entry)) ⌝ }
 {
-    let n = line.n;
     if b == b'\n' {
+        let n = line.n;
         run(&case[..n]);
-        return Line {
-            n: 0,
-            odd: false,
-            half: 0,
-        };
+        return Line::new();
     }
-    if line.odd {
-        if n < case.len() {
-            case[n] = line.half % 16 * 16 + value(b) % 16;
-            return Line {
-                n: n + 1,
-                odd: false,
-                half: 0,
-            };
-        }
-        return Line {
-            n,
-            odd: false,
-            half: 0,
-        };
-    }
-    Line {
-        n,
-        odd: true,
-        half: value(b),
-    }
+    case_lines::push(case, line, b)
 }
 
 fn feed(case: &mut [u8], line: Line, bytes: &[u8]) -> Line
@@ -220,11 +149,7 @@ fn feed(case: &mut [u8], line: Line, bytes: &[u8]) -> Line
 // Reads at most 65,536 chunks of 4,096 bytes.
 fn main() {
     let mut case = [0u8; 2048];
-    let mut line = Line {
-        n: 0,
-        odd: false,
-        half: 0,
-    };
+    let mut line = Line::new();
     let mut chunk = io::buffer();
     let mut turns: usize = 0;
     while turns < 65536 {

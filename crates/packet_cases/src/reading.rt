@@ -1,6 +1,6 @@
 // The answer of reading a datagram, and its fields.
-use crate::text::print_bytes;
-use crate::text::print_number;
+use case_lines::print_bytes;
+use case_lines::print_number;
 use entry::Node;
 use entry::UnixSeconds;
 use libc::STDOUT_FILENO;
@@ -25,7 +25,7 @@ fn print_enr_seq(e: EnrSeq) {
 
 fn print_to(g: &[u8], to: Recipient) {
     let address = to.address;
-    print_bytes(packets::bytes_of(g, address));
+    print_bytes(discv4::field_part(g, address));
     print_number(to.udp as u64);
 }
 
@@ -36,7 +36,7 @@ fn print_ping(g: &[u8], p: Ping) {
     let seq = p.enr_seq;
     io::write_all(STDOUT_FILENO, b"0\t1");
     print_number(p.version);
-    print_bytes(packets::bytes_of(g, address));
+    print_bytes(discv4::field_part(g, address));
     print_number(from.udp as u64);
     print_number(from.tcp as u64);
     print_to(g, to);
@@ -50,7 +50,7 @@ fn print_pong(g: &[u8], p: Pong) {
     let seq = p.enr_seq;
     io::write_all(STDOUT_FILENO, b"0\t2");
     print_to(g, to);
-    print_bytes(packets::bytes_of(g, hash));
+    print_bytes(discv4::field_part(g, hash));
     print_number(p.expiration);
     print_enr_seq(seq);
 }
@@ -58,7 +58,7 @@ fn print_pong(g: &[u8], p: Pong) {
 fn print_find_node(g: &[u8], p: FindNode) {
     let target = p.target;
     io::write_all(STDOUT_FILENO, b"0\t3");
-    print_bytes(packets::bytes_of(g, target));
+    print_bytes(discv4::field_part(g, target));
     print_number(p.expiration);
 }
 
@@ -70,18 +70,18 @@ fn print_node(n: Node) {
         len: endpoint.len as usize,
     };
     let key = n.key;
-    print_bytes(packets::bytes_of(&address, span));
+    print_bytes(discv4::field_part(&address, span));
     print_number(endpoint.udp as u64);
     print_number(endpoint.tcp as u64);
     print_bytes(&key);
 }
 
 fn print_nodes(g: &[u8], nodes: Span) {
-    let n = packets::node_count(g, nodes);
+    let n = discv4::node_count(g, nodes);
     print_number(n as u64);
     let mut i: usize = 0;
     while i < n {
-        let node = packets::node_at(g, nodes, i);
+        let node = discv4::node_at(g, nodes, i);
         print_node(node);
         i += 1;
     }
@@ -97,8 +97,8 @@ fn print_neighbors(g: &[u8], p: Neighbors) {
 fn print_enr_response(g: &[u8], p: EnrResponse) {
     let hash = p.request_hash;
     io::write_all(STDOUT_FILENO, b"0\t6");
-    print_bytes(packets::bytes_of(g, hash));
-    print_bytes(wire::record_part(g));
+    print_bytes(discv4::field_part(g, hash));
+    print_bytes(discv4::record_part(g));
 }
 
 fn print_packet(g: &[u8], packet: Packet) {

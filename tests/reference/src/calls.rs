@@ -9,8 +9,8 @@
 //!    for closest the list, with [`Reply::Closest`]; after every call or after the last one the
 //!    tables by [`crate::log::printout`] and the counters. [`Reply::text`] is the answer as the replay
 //!    prints it, where comparing texts is enough.
-//! 4. Ping hashes aren't in the printout, but the fields of `Table` are public: a test that knows the
-//!    other side's byte layout can write them out and compare the bytes.
+//! 4. Ping hashes aren't in the printout: [`crate::layout::table_bytes`] writes the whole table in the byte
+//!    layout of docs/LAYOUT.md, and [`crate::layout::run`] runs a call on such bytes, sound or not.
 //!    [`crate::generator::tables::sound_table`] makes sound tables that no run reaches.
 //!
 //! [`run`] does all of it at once for a list of calls.

@@ -1,6 +1,6 @@
 //! A second, plain implementation of document 01, to compare the proved library and the replay
-//! program with. It shares no code with them and knows nothing of their byte layout: the table is
-//! plain structs with `VecDeque`s, an answer is document 01's number with its values.
+//! program with. It shares no code with them: the table is plain structs with `VecDeque`s, an answer is
+//! document 01's number with its values. Only [`layout`] knows the table's bytes, from docs/LAYOUT.md.
 //!
 //! Quoted sentences in comments are document 01's, "(001)" marks the discv4 page; L1, A1, T1 .. are
 //! the settled readings of docs/DECISIONS.md.
@@ -12,17 +12,20 @@
 //! | [`packet`] | the six packets, read and written; join |
 //! | [`bucket`] | a table's entry and bucket, and what the rules do to one bucket |
 //! | [`table`] | the table and its four calls, the counters |
+//! | [`layout`] | the table's bytes, when they are sound, and the calls on them |
 //! | [`log`] | log lines, answers, printout: the replay |
 //! | [`calls`] | sequences of calls as values, to compare another implementation call by call |
 //! | [`generator`] | seeded random calls, tables and logs |
 //!
-//! Programs: `replay` (a log in, answers and printout out), `generate` (a seeded log) and
-//! `example_log` (the example of the README).
+//! Programs: `replay` (a log in, answers and printout out), `generate` (a seeded log), `call_cases`
+//! (seeded cases for the program of that name, with what it must print) and `example_log` (the example
+//! of the README).
 
 pub mod bucket;
 pub mod calls;
 pub mod generator;
 pub mod keccak;
+pub mod layout;
 pub mod log;
 pub mod packet;
 pub mod rlp;

@@ -77,7 +77,7 @@ impl Table {
     }
 
     /// Where in `buckets` the nodes with this hash belong; None if their bucket isn't kept.
-    fn index(&self, id: &[u8; 32]) -> Option<usize> {
+    pub fn index(&self, id: &[u8; 32]) -> Option<usize> {
         bucket_number(&distance(&self.own, id))?.checked_sub(self.lowest())
     }
 

@@ -1,7 +1,7 @@
 -- `packet_cases::take` meets its contract. Assumes nothing.
+use borrow.Author.Needs.{needs}
 use mathlib.Core.Path.{sym}
 use lib.Seq.{length-take-le}
-use borrow.Author.Needs.{needs}
 use Rattle.packet_cases.proofs.take.Statement.{statement}
 use Rattle.packet_cases.proofs.take.Tie as tie
 
@@ -15,15 +15,9 @@ take-spec =
     (λ c. search needs)
     slice-aggregate-run
     (λ c κs. search needs)
-    (λ c. search needs)
+    (λ c κs. search needs)
     (λ c. search needs)
     (λ c. search needs)
     (λ c κs. search needs)
     (λ c. search needs)
-    (λ c. search needs)
-    (λ c. search needs)
-    (λ c. search needs)
-    (λ c. search needs)
-    (λ c. search needs)
-    (λ c κs. search needs)
     (λ c. search needs))

@@ -8,10 +8,12 @@
 //! | [`calls`] | calls that follow a table's state |
 //! | [`logs`] | logs: lines of calls, damaged lines, `own` lines |
 //! | [`tables`] | sound tables, also those that no run reaches |
+//! | [`damage`] | bytes that make a table unsound, one kind at a time |
 //! | [`coverage`] | counts of the answers and of the cases at the edges |
 
 pub mod calls;
 pub mod coverage;
+pub mod damage;
 pub mod datagrams;
 pub mod logs;
 pub mod peers;

@@ -1,9 +1,9 @@
--- `packet_cases::text::print_hex` meets its contract. Assumes nothing.
+-- `case_lines::print_hex` meets its contract. Assumes nothing.
 use borrow.Author.Needs.{needs}
 use Prim.Native.Nat.{_≤_, _-_}
 use lib.ListN.{length}
-use Rattle.packet_cases.proofs.text.print_hex.Statement.{statement}
-use Rattle.packet_cases.proofs.text.print_hex.Tie as tie
+use Rattle.case_lines.proofs.print_hex.Statement.{statement}
+use Rattle.case_lines.proofs.print_hex.Tie as tie
 
 abbrev Inv-loop : tie.InvT-loop
 Inv-loop bytes i₀ i = i ≤ length bytes
