@@ -12,7 +12,8 @@ use lib.ListN.{length, getD, take, drop, length-drop, take-append-drop}
 use lib.Seq.{drop-drop, take-suc, drop-cons}
 use Rattle.octets.specs.Octets.{Bytes, part}
 use Rattle.lists.proofs.Laws.{byTest, never}
-use Rattle.log_line.specs.Fields.{span, fieldsFrom, fields, text, field, tabbed, untabbed}
+use Rattle.text.specs.Rows.{tabbed}
+use Rattle.log_line.specs.Fields.{span, fieldsFrom, fields, text, field, untabbed}
 
 module _ (line : Bytes) where
   -- the rest after one byte more

@@ -1,7 +1,7 @@
 -- The fields of a line, "parted by one tab", as spans of it.
 use Prim.Native.Nat.{ℕ, _+_, _≤_}
 use mathlib.Core.Bool.{Bool, cond, not}
-use mathlib.Core.List.{List, [], _∷_, _++_}
+use mathlib.Core.List.{List, [], _∷_}
 use lib.Dec.{eqb}
 use lib.ListN.{length, getD, set, replicate}
 use Rattle.lists.specs.Lists.{all}
@@ -31,11 +31,6 @@ field fs i = getD fs i (span 0 0)
 -- every field is a span of the line
 abbrev pub Within : Bytes → List Span → Type 0
 Within line fs = (i : ℕ) → field fs i .start + field fs i .len ≤ length line
-
--- these texts, with a tab before each
-abbrev pub tabbed : List Bytes → Bytes
-tabbed [] = []
-tabbed (f ∷ fs) = 0x09 ∷ f ++ tabbed fs
 
 -- no byte is a tab
 abbrev pub untabbed : Bytes → Bool

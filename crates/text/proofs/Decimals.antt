@@ -49,7 +49,7 @@ pub length-more : (n : ℕ) → 10 ≤ n → length (decimal n) ≡ length (deci
 length-more n g = rw (decimal-more n g, length-append)
 
 -- what is below a power of ten has no more digits than its exponent
-length-below : (w n : ℕ) → n < 10 ^ suc w → length (decimal n) ≤ suc w
+pub length-below : (w n : ℕ) → n < 10 ^ suc w → length (decimal n) ≤ suc w
 length-below zero n h = omega (arith, length-one n h)
 length-below (suc w) n h = elim (decLt n 10) [
   | yes l ↦ omega (arith, length-one n l)

@@ -1,0 +1,161 @@
+-- Rows one after the other: what is still to be written of them. Assumes nothing.
+use mathlib.Core.Path.{_≡_, refl, sym, ap, _∙_}
+use mathlib.Core.List.{List, [], _∷_, _++_, append-assoc, append-nil}
+use Prim.Native.Nat.{ℕ, suc, _+_, _-_, _*_, _≤_, _<_}
+use native.Mathlib.Numerals.{add-one}
+use native.Mathlib.Omega.{arith}
+use lib.ListN.{length, drop, drop-of-length-le}
+use lib.Seq.{drop-cons}
+use Rattle.octets.specs.Octets.{Bytes, part, store}
+use Rattle.lists.specs.Lists.{All}
+use Rattle.entry.specs.declared.Entry.{Entry}
+use Rattle.entry.specs.Layout.{decodeEntry}
+use Rattle.bucket_model.specs.Contents.{Contents, noContents, entriesAt}
+use Rattle.table_model.specs.Layout.{clockOf, countOf, bucketAt, bucketsOf}
+use Rattle.table_model.proofs.Entries.{behind, behind-none, behind-all, behind-turn}
+use Rattle.table_model.proofs.Table.{count-read, bucket-read}
+use Rattle.rlp.proofs.Writing.{Wrote}
+use Rattle.packet_parts.proofs.Progress.{Progress, concat, start, finish}
+use Rattle.text.specs.Decimals.{decimal}
+use Rattle.text.specs.Rows.{tabbed, row}
+use Rattle.printout.specs.Printout.{tableWord, rowEnd, entryTotal, replacementTotal, tableRow, entryRow, entryRows, bucketRows, bucketsRows}
+
+-- ---- a text that is written part by part
+
+module _ {d₀ : Bytes} {at : ℕ} {all : List Bytes} {d : Bytes} {n : ℕ} where
+  -- the next is to be written in two parts
+  pub parted : {rest : Bytes} (x y : Bytes) {xs : List Bytes} → rest ≡ x ++ y → Progress d₀ at all (rest ∷ xs) d n → Progress d₀ at all (x ∷ y ∷ xs) d n
+  parted {rest} x y {xs} e p =
+      record {
+        done = p .done;
+        split = ap (λ (t : Bytes). p .done ++ t) (sym (append-assoc x y (concat xs)) ∙ ap (λ (t : Bytes). t ++ concat xs) (sym e)) ∙ p .split;
+        wrote = p .wrote;
+        fits = p .fits;
+      }
+
+  -- nothing is left of the next
+  pub passed : {rest : Bytes} {xs : List Bytes} → rest ≡ [] → Progress d₀ at all (rest ∷ xs) d n → Progress d₀ at all xs d n
+  passed {rest} {xs} e p =
+      record {
+        done = p .done;
+        split = ap (λ (t : Bytes). p .done ++ (t ++ concat xs)) (sym e) ∙ p .split;
+        wrote = p .wrote;
+        fits = p .fits;
+      }
+
+-- one text
+module _ (d : Bytes) (at : ℕ) (x : Bytes) where
+  pub start-one : at + length x ≤ length d → Progress d at (x ∷ []) (x ∷ []) d at
+  start-one h = start d at (x ∷ []) (omega (arith, ap length (append-nil x)))
+
+  pub finish-one : {d′ : Bytes} {n : ℕ} → Progress d at (x ∷ []) [] d′ n → Wrote d at x d′ n
+  finish-one p = finish p (append-nil x)
+
+-- ---- a field whose text is that of a known value
+
+module _ {A : Type 0} (text : A → Bytes) {x y : A} (e : x ≡ y) where
+  pub field-fits : (at : ℕ) {n : ℕ} → at + length (0x09 ∷ text x) ≤ n → at + length (0x09 ∷ text y) ≤ n
+  field-fits at h = omega (arith, ap (λ (a : A). length (text a)) e)
+
+  pub field-wrote : (d : Bytes) (at : ℕ) {d′ : Bytes} {r : ℕ} → Wrote d at (0x09 ∷ text y) d′ r → Wrote d at (0x09 ∷ text x) d′ r
+  field-wrote d at w =
+      (w .0 ∙ ap (λ (a : A). at + length (0x09 ∷ text a)) (sym e), w .1 ∙ ap (λ (a : A). store d at (0x09 ∷ text a)) (sym e))
+
+-- ---- a row that is written in four parts
+
+pub tabbed-append : (a b : List Bytes) → tabbed (a ++ b) ≡ tabbed a ++ tabbed b
+tabbed-append [] b = refl
+tabbed-append (f ∷ a) b = ap (λ (t : Bytes). 0x09 ∷ f ++ t) (tabbed-append a b) ∙ ap (λ (t : Bytes). 0x09 ∷ t) (sym (append-assoc f (tabbed a) (tabbed b)))
+
+pub row-parts : (word : Bytes) (a : List Bytes) (f : Bytes) (b c : List Bytes)
+    → concat ((word ++ tabbed a) ∷ (0x09 ∷ f) ∷ tabbed b ∷ (tabbed c ++ rowEnd) ∷ []) ≡ row word (a ++ (f ∷ (b ++ c)))
+row-parts word a f b c =
+    let end : f ++ (tabbed b ++ (tabbed c ++ rowEnd)) ≡ f ++ (tabbed b ++ tabbed c) ++ rowEnd = simp append-assoc in
+    simp (tabbed-append, append-assoc, append-nil) (ap (λ (t : Bytes). word ++ (tabbed a ++ (0x09 ∷ t))) end)
+
+pub head-parts : (s : Bytes) {count clock entries replacements : ℕ}
+    → count ≡ countOf s → clock ≡ clockOf s → entries ≡ entryTotal (bucketsOf s) → replacements ≡ replacementTotal (bucketsOf s)
+    → concat (tableWord ∷ (0x09 ∷ decimal count) ∷ (0x09 ∷ decimal clock) ∷ (0x09 ∷ decimal entries) ∷ (0x09 ∷ decimal replacements) ∷ rowEnd ∷ []) ≡ tableRow s
+unfolding tableRow
+head-parts s e₁ e₂ e₃ e₄ = rw (e₁, e₂, e₃, e₄) (simp append-assoc)
+
+-- ---- the rows of entries in bytes
+
+module _ (word : Bytes) (number : ℕ) (s : Bytes) (from n : ℕ) where
+  -- the rows of the entries from index i on
+  abbrev pub rowsBehind : ℕ → Bytes
+  rowsBehind i = entryRows word number (i + 1) (behind s from n i)
+
+  pub all-rows : rowsBehind 0 ≡ entryRows word number 1 (entriesAt s from n)
+  all-rows = ap (λ (es : List Entry). entryRows word number 1 es) (behind-all s from n)
+
+  pub no-rows : (i : ℕ) → i ≤ n → n ≤ i → rowsBehind i ≡ []
+  unfolding entryRows
+  no-rows i h k =
+      let e : i ≡ n = omega arith in
+      ap (λ (j : ℕ). entryRows word number (i + 1) (behind s from n j)) e ∙ ap (λ (es : List Entry). entryRows word number (i + 1) es) (behind-none s from n)
+
+  module _ (i : ℕ) (h : i < n) where
+    next-entry : behind s from n i ≡ decodeEntry (part s (from + i * 143) 143) ∷ behind s from n (i + 1)
+    next-entry =
+        let e : i + 1 - 1 ≡ i = omega arith in
+        rw e at (behind-turn s from n (i + 1) (omega arith) (omega arith))
+
+    next-row : {e : Entry} → e ≡ decodeEntry (part s (from + i * 143) 143) → rowsBehind i ≡ entryRow word number (i + 1) e ++ rowsBehind (i + 1)
+    unfolding entryRows
+    next-row {e} is =
+        ap (λ (es : List Entry). entryRows word number (i + 1) es) next-entry
+        ∙ ap (λ (x : Entry). entryRow word number (i + 1) x ++ entryRows word number (suc (i + 1)) (behind s from n (i + 1))) (sym is)
+        ∙ ap (λ (k : ℕ). entryRow word number (i + 1) e ++ entryRows word number k (behind s from n (i + 1))) (sym (add-one (i + 1)))
+
+    -- the next row is the next to be written
+    pub due-row : {d₀ : Bytes} {at : ℕ} {all : List Bytes} {d : Bytes} {next : ℕ} {e : Entry}
+        → e ≡ decodeEntry (part s (from + i * 143) 143) → Progress d₀ at all (rowsBehind i ∷ []) d next
+        → Progress d₀ at all (entryRow word number (i + 1) e ∷ rowsBehind (i + 1) ∷ []) d next
+    due-row {e = e} is p = parted (entryRow word number (i + 1) e) (rowsBehind (i + 1)) (next-row is) p
+
+    module _ (P : Entry → Type 0) (all : All P (behind s from n i)) where
+      here-and-behind : P (decodeEntry (part s (from + i * 143) 143)) × All P (behind s from n (i + 1))
+      here-and-behind = rw next-entry at all
+
+      pub holds-here : {e : Entry} → e ≡ decodeEntry (part s (from + i * 143) 143) → P e
+      holds-here is = rw is (here-and-behind .0)
+
+      pub holds-behind : All P (behind s from n (i + 1))
+      holds-behind = here-and-behind .1
+
+-- ---- the rows of buckets
+
+module _ (s : Bytes) where
+  abbrev pub firstNumber : ℕ
+  firstNumber = 256 - countOf s
+
+  -- the rows of the buckets from a slot on
+  abbrev pub rowsFrom : ℕ → Bytes
+  rowsFrom slot = bucketsRows (firstNumber + slot) (drop slot (bucketsOf s))
+
+  pub all-buckets : rowsFrom 0 ≡ bucketsRows firstNumber (bucketsOf s)
+  all-buckets = let e : firstNumber + 0 ≡ firstNumber = omega arith in ap (λ (k : ℕ). bucketsRows k (bucketsOf s)) e
+
+  pub no-buckets : (slot : ℕ) → countOf s ≤ slot → rowsFrom slot ≡ []
+  unfolding bucketsRows
+  no-buckets slot h =
+      ap (λ (bs : List Contents). bucketsRows (firstNumber + slot) bs) (drop-of-length-le (bucketsOf s) {i = slot} (omega (arith, count-read s)))
+
+  pub next-bucket : (slot : ℕ) → slot < countOf s → drop slot (bucketsOf s) ≡ bucketAt s slot ∷ drop (slot + 1) (bucketsOf s)
+  next-bucket slot h = rw (add-one, ← bucket-read s slot h) (drop-cons (bucketsOf s) slot noContents (omega (arith, count-read s)))
+
+  next-rows : (slot : ℕ) → slot < countOf s → rowsFrom slot ≡ bucketRows (firstNumber + slot) (bucketAt s slot) ++ rowsFrom (slot + 1)
+  unfolding bucketsRows
+  next-rows slot h =
+      let e : suc (firstNumber + slot) ≡ firstNumber + (slot + 1) = omega arith in
+      ap (λ (bs : List Contents). bucketsRows (firstNumber + slot) bs) (next-bucket slot h)
+      ∙ ap (λ (k : ℕ). bucketRows (firstNumber + slot) (bucketAt s slot) ++ bucketsRows k (drop (slot + 1) (bucketsOf s))) e
+
+  -- the next bucket's rows are the next to be written
+  pub due-rows : (slot : ℕ) → slot < countOf s → {d₀ : Bytes} {at : ℕ} {all : List Bytes} {d : Bytes} {next number : ℕ}
+      → number ≡ firstNumber + slot → Progress d₀ at all (rowsFrom slot ∷ []) d next
+      → Progress d₀ at all (bucketRows number (bucketAt s slot) ∷ rowsFrom (slot + 1) ∷ []) d next
+  due-rows slot h {number = number} is p =
+      parted (bucketRows number (bucketAt s slot)) (rowsFrom (slot + 1))
+      (next-rows slot h ∙ ap (λ (k : ℕ). bucketRows k (bucketAt s slot) ++ rowsFrom (slot + 1)) (sym is)) p

@@ -1,0 +1,154 @@
+-- How long the rows of a sound table get. Assumes nothing.
+use mathlib.Core.Path.{_≡_, refl, _∙_}
+use mathlib.Core.Bool.{true}
+use mathlib.Core.List.{List, [], _∷_, _++_}
+use Prim.Native.Nat.{ℕ, suc, _+_, _-_, _*_, _≤_, _<_}
+use native.Mathlib.Omega.{arith}
+use lib.ListN.{length, take, getD, length-append, length-take}
+use Rattle.octets.specs.Octets.{Bytes, IsBytes}
+use Rattle.lists.specs.Lists.{All}
+use Rattle.lists.proofs.Laws.{at-All}
+use Rattle.text.specs.Decimals.{decimal}
+use Rattle.text.specs.Hex.{hex}
+use Rattle.text.specs.Rows.{tabbed}
+use Rattle.text.proofs.Decimals.{length-below, length-bound}
+use Rattle.text.proofs.Hex.{length-hex}
+use Rattle.distance.specs.Distance.{home}
+use Rattle.entry.specs.declared.Entry.{Entry}
+use Rattle.entry.specs.declared.EndpointProof.{EndpointProof}
+use Rattle.entry.specs.declared.EndpointProof.the-variants.{Unproved, At}
+use Rattle.entry.specs.declared.PingState.{PingState}
+use Rattle.entry.specs.declared.PingState.the-variants.{Quiet, Out}
+use Rattle.entry.proofs.Laws.{IsEntry, ProofFits, PingFits}
+use Rattle.bucket_model.specs.Contents.{Contents, noContents}
+use Rattle.bucket_model.specs.Rules.{addressOf}
+use Rattle.bucket_model.proofs.ByteForm.{IsContents}
+use Rattle.bucket_model.proofs.Values.{sound-contents}
+use Rattle.table_model.specs.Layout.{ownOf, clockOf, countOf, numberOf, bucketsOf}
+use Rattle.table_model.specs.Sound.{tableSound}
+use Rattle.table_model.proofs.Sound.{sound-is-table}
+use Rattle.table_model.proofs.Table.{count-read}
+use Rattle.printout.specs.Printout.{proofText, pingText, entryWord, replacementWord, tableWord, entryRow, entryRows, bucketRows, bucketsRows, entryTotal, replacementTotal, tableRow, printout}
+use Rattle.printout.specs.Held.{room}
+
+-- the lengths of texts, with one for the tab before each
+abbrev tabbedSize : List Bytes → ℕ
+tabbedSize [] = 0
+tabbedSize (f ∷ fs) = 1 + length f + tabbedSize fs
+
+length-tabbed : (fs : List Bytes) → length (tabbed fs) ≡ tabbedSize fs
+length-tabbed [] = refl
+length-tabbed (f ∷ fs) = omega (arith, length-append f (tabbed fs), length-tabbed fs)
+
+length-row : (first : Bytes) (more : List Bytes) → length (first ++ tabbed more ++ (0x0a ∷ [])) ≡ length first + tabbedSize more + 1
+length-row first more = length-append (first ++ tabbed more) (0x0a ∷ []) ∙ omega (arith, length-append first (tabbed more), length-tabbed more)
+
+hex-bound : (n : ℕ) (s : Bytes) → length s ≤ n → length (hex s) ≤ 2 * n
+hex-bound n s h = omega (arith, length-hex s)
+
+proof-bound : (p : EndpointProof) → ProofFits p → length (proofText p) ≤ 20
+proof-bound Unproved h = omega arith
+proof-bound (At t) h = length-bound (t .0) h
+
+ping-bound : (p : PingState) → PingFits p → length (pingText p) ≤ 20
+ping-bound Quiet h = omega arith
+ping-bound (Out t) h = length-bound (t .0) h
+
+-- 4+1+3+1+2+1+16+1+32+1+5+1+5+1+20+1+20+1+20+1
+entry-bound : (word : Bytes) (number place : ℕ) (e : Entry) → length word ≤ 4 → number < 1000 → place < 100 → IsEntry e
+    → length (entryRow word number place e) ≤ 137
+unfolding entryRow
+entry-bound word number place e hw hn hp is =
+    let texts : List Bytes = decimal number ∷ decimal place ∷ hex (take 8 (e .key)) ∷ hex (addressOf (e .endpoint)) ∷ decimal (e .endpoint .udp) ∷ decimal (e .endpoint .tcp) ∷ decimal (e .seen .0) ∷ proofText (e .proof) ∷ pingText (e .ping) ∷ [] in
+    omega (
+      arith,
+      length-row word texts,
+      length-below 2 number hn,
+      length-below 1 place hp,
+      hex-bound 8 (take 8 (e .key)) (omega (arith, length-take 8 (e .key))),
+      hex-bound 16 (addressOf (e .endpoint)) (omega (arith, length-take (e .endpoint .len) (e .endpoint .address), is .address)),
+      length-below 4 (e .endpoint .udp) (omega (arith, is .udp)),
+      length-below 4 (e .endpoint .tcp) (omega (arith, is .tcp)),
+      length-bound (e .seen .0) (is .seen),
+      proof-bound (e .proof) (is .proof),
+      ping-bound (e .ping) (is .ping),
+    )
+
+entries-bound : (word : Bytes) (number place : ℕ) (es : List Entry) → length word ≤ 4 → number < 1000 → place + length es ≤ 100 → All IsEntry es
+    → length (entryRows word number place es) ≤ length es * 137
+unfolding entryRows
+entries-bound word number place [] hw hn hp is = omega arith
+entries-bound word number place (e ∷ es) hw hn hp is =
+    omega (
+      arith,
+      length-append (entryRow word number place e) (entryRows word number (suc place) es),
+      entry-bound word number place e hw hn (omega arith) (is .0),
+      entries-bound word number (suc place) es hw hn (omega arith) (is .1),
+    )
+
+bucket-bound : (number : ℕ) (m : Contents) → number < 1000 → IsContents m → length (bucketRows number m) ≤ 20 * 137
+unfolding bucketRows
+bucket-bound number m hn is =
+    omega (
+      arith,
+      length-append (entryRows entryWord number 1 (m .entries)) (entryRows replacementWord number 1 (m .replacements)),
+      is .most,
+      is .mostWaiting,
+      entries-bound entryWord number 1 (m .entries) (omega arith) hn (omega (arith, is .most)) (is .entries),
+      entries-bound replacementWord number 1 (m .replacements) (omega arith) hn (omega (arith, is .mostWaiting)) (is .replacements),
+    )
+
+buckets-bound : (number : ℕ) (ms : List Contents) → number + length ms ≤ 1000 → All IsContents ms
+    → length (bucketsRows number ms) ≤ length ms * (20 * 137)
+unfolding bucketsRows
+buckets-bound number [] hn is = omega arith
+buckets-bound number (m ∷ ms) hn is =
+    omega (
+      arith,
+      length-append (bucketRows number m) (bucketsRows (suc number) ms),
+      bucket-bound number m (omega arith) (is .0),
+      buckets-bound (suc number) ms (omega arith) (is .1),
+    )
+
+totals-bound : (ms : List Contents) → All IsContents ms → (entryTotal ms ≤ length ms * 16) × (replacementTotal ms ≤ length ms * 4)
+unfolding entryTotal replacementTotal
+totals-bound [] is = (omega arith, omega arith)
+totals-bound (m ∷ ms) is =
+    let rest = totals-bound ms (is .1) in
+    (omega (arith, is .0 .most, rest .0), omega (arith, is .0 .mostWaiting, rest .1))
+
+module _ (s : Bytes) (bs : IsBytes s) (h : tableSound s ≡ true) where
+  all-contents : All IsContents (bucketsOf s)
+  all-contents =
+      let t = sound-is-table s bs h in
+      at-All IsContents (bucketsOf s) noContents
+      (λ j k.
+      let b = t .each j k in
+      sound-contents (home (ownOf s) (numberOf (length (bucketsOf s)) j)) (clockOf s) (getD (bucketsOf s) j noContents) (b .rules) (b .values))
+
+  module _ (few : countOf s ≤ 16) where
+    head-bound : length (tableRow s) ≤ 37
+    unfolding tableRow
+    head-bound =
+        let texts : List Bytes = decimal (countOf s) ∷ decimal (clockOf s) ∷ decimal (entryTotal (bucketsOf s)) ∷ decimal (replacementTotal (bucketsOf s)) ∷ [] in
+        let totals = totals-bound (bucketsOf s) all-contents in
+        omega (
+          arith,
+          length-row tableWord texts,
+          length-below 1 (countOf s) (omega arith),
+          length-bound (clockOf s) (sound-is-table s bs h .clock-fits),
+          length-below 2 (entryTotal (bucketsOf s)) (omega (arith, totals .0, count-read s)),
+          length-below 1 (replacementTotal (bucketsOf s)) (omega (arith, totals .1, count-read s)),
+        )
+
+    -- the printout of a table of up to 16 buckets fits its room
+    pub printout-fits : length (printout s) ≤ room
+    unfolding printout
+    printout-fits =
+        omega (
+          arith,
+          length-append (tableRow s) (bucketsRows (256 - countOf s) (bucketsOf s)),
+          head-bound,
+          count-read s,
+          buckets-bound (256 - countOf s) (bucketsOf s) (omega (arith, count-read s)) all-contents,
+        )

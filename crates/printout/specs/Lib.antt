@@ -1,0 +1,3 @@
+pub mod Printout
+pub mod Parts
+pub mod Held

@@ -1,0 +1,111 @@
+-- The printout of a table. Document 01, "Log and printout": "buckets rising, in each the seats from the head, then its `wait` lines, places
+-- counted from 1". "Fields: buckets, clock, seats, waiting; then distance, place, first 8 key bytes, address, ports, last seen, proof (`-` if
+-- none), `quiet` or the millisecond."
+use Prim.Native.Nat.{ℕ, suc, _+_, _-_}
+use mathlib.Core.List.{List, [], _∷_, _++_}
+use lib.ListN.{length, take}
+use Rattle.octets.specs.Octets.{Bytes}
+use Rattle.text.specs.Decimals.{decimal}
+use Rattle.text.specs.Hex.{hex}
+use Rattle.text.specs.Rows.{row}
+use Rattle.entry.specs.declared.Entry.{Entry}
+use Rattle.entry.specs.declared.EndpointProof.{EndpointProof}
+use Rattle.entry.specs.declared.EndpointProof.the-variants.{Unproved, At}
+use Rattle.entry.specs.declared.PingState.{PingState}
+use Rattle.entry.specs.declared.PingState.the-variants.{Quiet, Out}
+use Rattle.bucket_model.specs.Contents.{Contents}
+use Rattle.bucket_model.specs.Rules.{addressOf}
+use Rattle.table_model.specs.Layout.{clockOf, countOf, bucketsOf}
+
+-- ---- the words
+
+-- `table`
+abbrev pub tableWord : Bytes
+tableWord = 0x74 ∷ 0x61 ∷ 0x62 ∷ 0x6c ∷ 0x65 ∷ []
+
+-- `seat`, of document 01's seats
+abbrev pub entryWord : Bytes
+entryWord = 0x73 ∷ 0x65 ∷ 0x61 ∷ 0x74 ∷ []
+
+-- `wait`, of document 01's waiting line
+abbrev pub replacementWord : Bytes
+replacementWord = 0x77 ∷ 0x61 ∷ 0x69 ∷ 0x74 ∷ []
+
+-- `-`
+abbrev pub noProof : Bytes
+noProof = 0x2d ∷ []
+
+-- `quiet`
+abbrev pub quietWord : Bytes
+quietWord = 0x71 ∷ 0x75 ∷ 0x69 ∷ 0x65 ∷ 0x74 ∷ []
+
+-- what a row ends in
+abbrev pub rowEnd : Bytes
+rowEnd = 0x0a ∷ []
+
+-- ---- one entry
+
+-- "proof (`-` if none)"
+abbrev pub proofText : EndpointProof → Bytes
+proofText Unproved = noProof
+proofText (At t) = decimal (t .0)
+
+-- "`quiet` or the millisecond"
+abbrev pub pingText : PingState → Bytes
+pingText Quiet = quietWord
+pingText (Out t) = decimal (t .0)
+
+-- "distance, place, first 8 key bytes, address, ports, last seen, proof, .."; the distance is the logarithmic one, the number of the bucket
+unfoldable pub entryRow : Bytes → ℕ → ℕ → Entry → Bytes
+entryRow word number place e =
+    row word (decimal number
+    ∷ decimal place
+    ∷ hex (take 8 (e .key))
+    ∷ hex (addressOf (e .endpoint))
+    ∷ decimal (e .endpoint .udp)
+    ∷ decimal (e .endpoint .tcp)
+    ∷ decimal (e .seen .0)
+    ∷ proofText (e .proof)
+    ∷ pingText (e .ping)
+    ∷ [])
+
+-- ---- the buckets
+
+-- entries one after the other, the first of them in this place
+unfoldable pub entryRows : Bytes → ℕ → ℕ → List Entry → Bytes
+entryRows word number place [] = []
+entryRows word number place (e ∷ es) = entryRow word number place e ++ entryRows word number (suc place) es
+
+-- "the seats from the head, then its `wait` lines, places counted from 1"
+unfoldable pub bucketRows : ℕ → Contents → Bytes
+bucketRows number b = entryRows entryWord number 1 (b .entries) ++ entryRows replacementWord number 1 (b .replacements)
+
+-- "buckets rising", the first of them with this number
+unfoldable pub bucketsRows : ℕ → List Contents → Bytes
+bucketsRows number [] = []
+bucketsRows number (b ∷ bs) = bucketRows number b ++ bucketsRows (suc number) bs
+
+-- ---- the table
+
+-- all entries (document 01's "seats")
+unfoldable pub entryTotal : List Contents → ℕ
+entryTotal [] = 0
+entryTotal (b ∷ bs) = length (b .entries) + entryTotal bs
+
+-- all replacements (document 01's "waiting")
+unfoldable pub replacementTotal : List Contents → ℕ
+replacementTotal [] = 0
+replacementTotal (b ∷ bs) = length (b .replacements) + replacementTotal bs
+
+-- "buckets, clock, seats, waiting"
+unfoldable pub tableRow : Bytes → Bytes
+tableRow s =
+    row tableWord (decimal (countOf s)
+    ∷ decimal (clockOf s)
+    ∷ decimal (entryTotal (bucketsOf s))
+    ∷ decimal (replacementTotal (bucketsOf s))
+    ∷ [])
+
+-- the printout of the table with the bytes s
+unfoldable pub printout : Bytes → Bytes
+printout s = tableRow s ++ bucketsRows (256 - countOf s) (bucketsOf s)

@@ -1,0 +1,270 @@
+// The printout of a table in lent bytes, as text.
+ghost use mathlib.Core.Path.{_≡_};
+ghost use mathlib.Core.Bool.{true};
+ghost use mathlib.Core.List.{_∷_};
+ghost use Prim.Native.Nat.{_+_, _-_, _≤_, _<_};
+ghost use lib.ListN.{length};
+ghost use Rattle.octets.specs.Octets.{store};
+ghost use Rattle.text.specs.Decimals.{decimal};
+ghost use Rattle.text.specs.Hex.{hex};
+ghost use Rattle.bucket_model.specs.Contents.{entriesAt};
+ghost use Rattle.table_model.specs.Layout.{countOf, bucketAt, bucketsOf};
+ghost use Rattle.table_model.specs.Sound.{tableSound};
+ghost use Rattle.printout.specs.Printout.{rowEnd, proofText, pingText, entryRow, entryRows, bucketRows, bucketsRows, entryTotal, replacementTotal, tableRow, printout};
+ghost use Rattle.printout.specs.Parts.{placeText, endpointText, timesText};
+ghost use Rattle.printout.specs.Held.{HasAddress, EntriesIn, BucketIn, room};
+use entry::Endpoint;
+use entry::EndpointProof;
+use entry::Entry;
+use entry::MonotonicMillis;
+use entry::PingState;
+
+// The bytes that the printout of a table of up to 16 buckets can take: a row of 37 bytes, and 16 × 20 rows of 137.
+pub const ROOM: usize = 43877;
+
+// Each `put_` function writes its text from index `at`, and returns the index after it.
+
+fn put_word(out: &mut [u8], at: usize, word: &[u8]) -> usize
+    requires { ⌜ at + length (now word) ≤ length (now out) ⌝ }
+    ensures next { λ r. ⌜ r ≡ at + length (now (word .entry)) ⌝ }
+    ensures bytes { λ _. ⌜ now (out .exit) ≡ store (now (out .entry)) at (now (word .entry)) ⌝ }
+{
+    octets::put_bytes(out, at, word);
+    at + word.len()
+}
+
+// The end of a row.
+fn put_end(out: &mut [u8], at: usize) -> usize
+    requires { ⌜ at + 1 ≤ length (now out) ⌝ }
+    ensures next { λ r. ⌜ r ≡ at + length rowEnd ⌝ }
+    ensures bytes { λ _. ⌜ now (out .exit) ≡ store (now (out .entry)) at rowEnd ⌝ }
+{
+    out[at] = b'\n';
+    at + 1
+}
+
+// A field that is a word.
+fn word_field(out: &mut [u8], at: usize, word: &[u8]) -> usize
+    requires { ⌜ at + length (0x09 ∷ now word) ≤ length (now out) ⌝ }
+    ensures next { λ r. ⌜ r ≡ at + length (0x09 ∷ now (word .entry)) ⌝ }
+    ensures bytes { λ _. ⌜ now (out .exit) ≡ store (now (out .entry)) at (0x09 ∷ now (word .entry)) ⌝ }
+{
+    out[at] = b'\t';
+    put_word(out, at + 1, word)
+}
+
+// A field that is a decimal.
+fn decimal_field(out: &mut [u8], at: usize, n: u64) -> usize
+    requires { ⌜ at + length (0x09 ∷ decimal n) ≤ length (now out) ⌝ }
+    ensures next { λ r. ⌜ r ≡ at + length (0x09 ∷ decimal n) ⌝ }
+    ensures bytes { λ _. ⌜ now (out .exit) ≡ store (now (out .entry)) at (0x09 ∷ decimal n) ⌝ }
+{
+    out[at] = b'\t';
+    text::put_decimal(out, at + 1, n)
+}
+
+// A field that is hex.
+fn hex_field(out: &mut [u8], at: usize, bytes: &[u8]) -> usize
+    requires { ⌜ at + length (0x09 ∷ hex (now bytes)) ≤ length (now out) ⌝ }
+    ensures next { λ r. ⌜ r ≡ at + length (0x09 ∷ hex (now (bytes .entry))) ⌝ }
+    ensures bytes { λ _. ⌜ now (out .exit) ≡ store (now (out .entry)) at (0x09 ∷ hex (now (bytes .entry))) ⌝ }
+{
+    out[at] = b'\t';
+    text::put_hex(out, at + 1, bytes)
+}
+
+fn put_proof(out: &mut [u8], at: usize, proof: EndpointProof) -> usize
+    requires { ⌜ at + length (0x09 ∷ proofText proof) ≤ length (now out) ⌝ }
+    ensures next { λ r. ⌜ r ≡ at + length (0x09 ∷ proofText proof) ⌝ }
+    ensures bytes { λ _. ⌜ now (out .exit) ≡ store (now (out .entry)) at (0x09 ∷ proofText proof) ⌝ }
+{
+    match proof {
+        EndpointProof::Unproved => word_field(out, at, b"-"),
+        EndpointProof::At(t) => decimal_field(out, at, t.0),
+    }
+}
+
+fn put_ping(out: &mut [u8], at: usize, ping: PingState) -> usize
+    requires { ⌜ at + length (0x09 ∷ pingText ping) ≤ length (now out) ⌝ }
+    ensures next { λ r. ⌜ r ≡ at + length (0x09 ∷ pingText ping) ⌝ }
+    ensures bytes { λ _. ⌜ now (out .exit) ≡ store (now (out .entry)) at (0x09 ∷ pingText ping) ⌝ }
+{
+    match ping {
+        PingState::Quiet => word_field(out, at, b"quiet"),
+        PingState::Out(t) => decimal_field(out, at, t.0),
+    }
+}
+
+// The address and the ports.
+fn put_endpoint(out: &mut [u8], at: usize, endpoint: Endpoint) -> usize
+    requires { ⌜ (endpoint .len ≤ 16) × (at + length (endpointText endpoint) ≤ length (now out)) ⌝ }
+    ensures next { λ r. ⌜ r ≡ at + length (endpointText endpoint) ⌝ }
+    ensures bytes { λ _. ⌜ now (out .exit) ≡ store (now (out .entry)) at (endpointText endpoint) ⌝ }
+{
+    let address = endpoint.address;
+    let len = endpoint.len as usize;
+    let next = hex_field(out, at, &address[..len]);
+    let next = decimal_field(out, next, endpoint.udp as u64);
+    decimal_field(out, next, endpoint.tcp as u64)
+}
+
+// The word, the distance and the place.
+fn put_place(out: &mut [u8], at: usize, word: &[u8], number: usize, place: usize) -> usize
+    requires { ⌜ at + length (placeText (now word) number place) ≤ length (now out) ⌝ }
+    ensures next { λ r. ⌜ r ≡ at + length (placeText (now (word .entry)) number place) ⌝ }
+    ensures bytes { λ _. ⌜ now (out .exit) ≡ store (now (out .entry)) at (placeText (now (word .entry)) number place) ⌝ }
+{
+    let next = put_word(out, at, word);
+    let next = decimal_field(out, next, number as u64);
+    decimal_field(out, next, place as u64)
+}
+
+// Last seen, proof and ping, and the end of the row.
+fn put_times(
+    out: &mut [u8],
+    at: usize,
+    seen: MonotonicMillis,
+    proof: EndpointProof,
+    ping: PingState,
+) -> usize
+    requires { ⌜ at + length (timesText seen proof ping) ≤ length (now out) ⌝ }
+    ensures next { λ r. ⌜ r ≡ at + length (timesText seen proof ping) ⌝ }
+    ensures bytes { λ _. ⌜ now (out .exit) ≡ store (now (out .entry)) at (timesText seen proof ping) ⌝ }
+{
+    let next = decimal_field(out, at, seen.0);
+    let next = put_proof(out, next, proof);
+    let next = put_ping(out, next, ping);
+    put_end(out, next)
+}
+
+// The row of an entry.
+fn put_entry(out: &mut [u8], at: usize, word: &[u8], number: usize, place: usize, e: Entry) -> usize
+    requires { ⌜ HasAddress e × (at + length (entryRow (now word) number place e) ≤ length (now out)) ⌝ }
+    ensures next { λ r. ⌜ r ≡ at + length (entryRow (now (word .entry)) number place e) ⌝ }
+    ensures bytes { λ _. ⌜ now (out .exit) ≡ store (now (out .entry)) at (entryRow (now (word .entry)) number place e) ⌝ }
+{
+    let key = e.key;
+    let endpoint = e.endpoint;
+    let seen = e.seen;
+    let proof = e.proof;
+    let ping = e.ping;
+    let next = put_place(out, at, word, number, place);
+    let next = hex_field(out, next, &key[..8]);
+    let next = put_endpoint(out, next, endpoint);
+    put_times(out, next, seen, proof, ping)
+}
+
+// The rows of the `n` entries whose bytes start at index `from` of the table.
+fn put_entries(
+    out: &mut [u8],
+    at: usize,
+    word: &[u8],
+    number: usize,
+    table: &[u8],
+    from: usize,
+    n: usize,
+) -> usize
+    requires { ⌜ EntriesIn (now table) from n × (at + length (entryRows (now word) number 1 (entriesAt (now table) from n)) ≤ length (now out)) ⌝ }
+    ensures next { λ r. ⌜ r ≡ at + length (entryRows (now (word .entry)) number 1 (entriesAt (now (table .entry)) from n)) ⌝ }
+    ensures bytes { λ _. ⌜ now (out .exit) ≡ store (now (out .entry)) at (entryRows (now (word .entry)) number 1 (entriesAt (now (table .entry)) from n)) ⌝ }
+{
+    let mut next = at;
+    let mut i = 0;
+    while i < n {
+        let e = entry::load_entry(table, from + i * Entry::SIZE);
+        next = put_entry(out, next, word, number, i + 1, e);
+        i += 1;
+    }
+    next
+}
+
+// The rows of the bucket in a slot, which has this number.
+fn put_bucket(out: &mut [u8], at: usize, number: usize, table: &[u8], slot: usize) -> usize
+    requires { ⌜ BucketIn (now table) slot × (at + length (bucketRows number (bucketAt (now table) slot)) ≤ length (now out)) ⌝ }
+    ensures next { λ r. ⌜ r ≡ at + length (bucketRows number (bucketAt (now (table .entry)) slot)) ⌝ }
+    ensures bytes { λ _. ⌜ now (out .exit) ≡ store (now (out .entry)) at (bucketRows number (bucketAt (now (table .entry)) slot)) ⌝ }
+{
+    let start = table::HEADER_SIZE + slot * table::BUCKET_SIZE;
+    let entries = table[start] as usize;
+    let replacements = table[start + 1] as usize;
+    let next = put_entries(out, at, b"seat", number, table, start + 2, entries);
+    put_entries(
+        out,
+        next,
+        b"wait",
+        number,
+        table,
+        start + 2290,
+        replacements,
+    )
+}
+
+// The rows of all buckets.
+fn put_buckets(out: &mut [u8], at: usize, table: &[u8]) -> usize
+    requires { ⌜ (tableSound (now table) ≡ true) × (at + length (bucketsRows (256 - countOf (now table)) (bucketsOf (now table))) ≤ length (now out)) ⌝ }
+    ensures next { λ r. ⌜ r ≡ at + length (bucketsRows (256 - countOf (now (table .entry))) (bucketsOf (now (table .entry)))) ⌝ }
+    ensures bytes { λ _. ⌜ now (out .exit) ≡ store (now (out .entry)) at (bucketsRows (256 - countOf (now (table .entry))) (bucketsOf (now (table .entry)))) ⌝ }
+{
+    let count = table::bucket_count(table);
+    let first = 256 - count;
+    let mut next = at;
+    let mut slot = 0;
+    while slot < count {
+        next = put_bucket(out, next, first + slot, table, slot);
+        slot += 1;
+    }
+    next
+}
+
+// How many entries and how many replacements a table holds.
+struct Totals {
+    entries: usize,
+    replacements: usize,
+}
+
+fn held_in(table: &[u8]) -> Totals
+    requires { ⌜ tableSound (now table) ≡ true ⌝ }
+    ensures { λ r. ⌜ r ≡ record { entries = entryTotal (bucketsOf (now (table .entry))); replacements = replacementTotal (bucketsOf (now (table .entry))) } ⌝ }
+{
+    let count = table::bucket_count(table);
+    let mut entries: usize = 0;
+    let mut replacements: usize = 0;
+    let mut slot = 0;
+    while slot < count {
+        let start = table::HEADER_SIZE + slot * table::BUCKET_SIZE;
+        entries += table[start] as usize;
+        replacements += table[start + 1] as usize;
+        slot += 1;
+    }
+    Totals {
+        entries,
+        replacements,
+    }
+}
+
+// The row of the table.
+fn put_head(out: &mut [u8], table: &[u8]) -> usize
+    requires { ⌜ (tableSound (now table) ≡ true) × (length (tableRow (now table)) ≤ length (now out)) ⌝ }
+    ensures next { λ r. ⌜ r ≡ 0 + length (tableRow (now (table .entry))) ⌝ }
+    ensures bytes { λ _. ⌜ now (out .exit) ≡ store (now (out .entry)) 0 (tableRow (now (table .entry))) ⌝ }
+{
+    let count = table::bucket_count(table);
+    let clock = table::clock(table);
+    let total = held_in(table);
+    let next = put_word(out, 0, b"table");
+    let next = decimal_field(out, next, count as u64);
+    let next = decimal_field(out, next, clock.0);
+    let next = decimal_field(out, next, total.entries as u64);
+    let next = decimal_field(out, next, total.replacements as u64);
+    put_end(out, next)
+}
+
+// Writes the printout of a sound table of up to 16 buckets, and returns its length.
+pub fn put_table(out: &mut [u8], table: &[u8]) -> usize
+    requires { ⌜ (tableSound (now table) ≡ true) × ((countOf (now table) ≤ 16) × (room ≤ length (now out))) ⌝ }
+    ensures { λ r. ⌜ r ≡ length (printout (now (table .entry))) ⌝ }
+    ensures { λ _. ⌜ now (out .exit) ≡ store (now (out .entry)) 0 (printout (now (table .entry))) ⌝ }
+{
+    let next = put_head(out, table);
+    put_buckets(out, next, table)
+}

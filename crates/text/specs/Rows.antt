@@ -1,0 +1,12 @@
+-- Lines of fields.
+use mathlib.Core.List.{List, [], _∷_, _++_}
+use Rattle.octets.specs.Octets.{Bytes}
+
+-- these texts, with a tab before each
+abbrev pub tabbed : List Bytes → Bytes
+tabbed [] = []
+tabbed (f ∷ fs) = 0x09 ∷ f ++ tabbed fs
+
+-- a line: fields parted by one tab, ended by 0A
+abbrev pub row : Bytes → List Bytes → Bytes
+row first more = first ++ tabbed more ++ (0x0a ∷ [])
