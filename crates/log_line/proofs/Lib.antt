@@ -4,3 +4,4 @@ pub mod Found
 pub mod Laws
 pub mod Examples
 pub mod Parting
+pub mod Numbers

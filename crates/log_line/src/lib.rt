@@ -105,7 +105,7 @@ fn split(line: &[u8]) -> Fields
 }
 
 // The bytes of a field.
-fn text_of(line: &[u8], f: Span) -> &[u8]
+pub fn text_of(line: &[u8], f: Span) -> &[u8]
     requires { ⌜ f .start + f .len ≤ length (now line) ⌝ }
     ensures { λ r. ⌜ now r ≡ spec.text (now (line .entry)) f ⌝ }
 {

@@ -1,0 +1,96 @@
+-- The answer to a line of a log, as a line of text. Document 01, "Log and printout": "Each line is answered by its number; after 0 an `rx` adds a
+-- tab and these, parted by tabs: ping `pong`, then `ping` if due; pong `tail` (was seated), `seat` (now seated), or `wait`, the head's first 8
+-- key bytes, `quiet` or its millisecond; the others `find`, `nodes`, `enr`, `record`."
+use Prim.Native.Nat.{ℕ}
+use mathlib.Core.Bool.{Bool, cond}
+use mathlib.Core.List.{List, [], _∷_}
+use lib.ListN.{take}
+use Rattle.octets.specs.Octets.{Bytes}
+use Rattle.text.specs.Decimals.{decimal}
+use Rattle.text.specs.Hex.{hex}
+use Rattle.text.specs.Rows.{row}
+use Rattle.entry.specs.declared.PingState.{PingState}
+use Rattle.entry.specs.declared.PingState.the-variants.{Quiet, Out}
+use Rattle.calls.specs.declared.Standing.{Standing}
+use Rattle.calls.specs.declared.Standing.the-variants.{Tail, TookEntry, Waiting}
+use Rattle.calls.specs.declared.Outcome.{Outcome}
+use Rattle.calls.specs.declared.Outcome.the-variants.{Refused, Ping, Pong, FindNode, Neighbors, EnrRequest, EnrResponse}
+use Rattle.calls.specs.declared.Received.{Received}
+use Rattle.calls.specs.Answer.{numberOf}
+
+-- ---- the words
+
+-- `pong`
+abbrev pub pongWord : Bytes
+pongWord = 0x70 ∷ 0x6f ∷ 0x6e ∷ 0x67 ∷ []
+
+-- `ping`
+abbrev pub pingWord : Bytes
+pingWord = 0x70 ∷ 0x69 ∷ 0x6e ∷ 0x67 ∷ []
+
+-- `tail`
+abbrev pub tailWord : Bytes
+tailWord = 0x74 ∷ 0x61 ∷ 0x69 ∷ 0x6c ∷ []
+
+-- `seat`
+abbrev pub tookEntryWord : Bytes
+tookEntryWord = 0x73 ∷ 0x65 ∷ 0x61 ∷ 0x74 ∷ []
+
+-- `wait`
+abbrev pub waitingWord : Bytes
+waitingWord = 0x77 ∷ 0x61 ∷ 0x69 ∷ 0x74 ∷ []
+
+-- `quiet`
+abbrev pub quietWord : Bytes
+quietWord = 0x71 ∷ 0x75 ∷ 0x69 ∷ 0x65 ∷ 0x74 ∷ []
+
+-- `find`
+abbrev pub findWord : Bytes
+findWord = 0x66 ∷ 0x69 ∷ 0x6e ∷ 0x64 ∷ []
+
+-- `nodes`
+abbrev pub nodesWord : Bytes
+nodesWord = 0x6e ∷ 0x6f ∷ 0x64 ∷ 0x65 ∷ 0x73 ∷ []
+
+-- `enr`
+abbrev pub enrWord : Bytes
+enrWord = 0x65 ∷ 0x6e ∷ 0x72 ∷ []
+
+-- `record`
+abbrev pub recordWord : Bytes
+recordWord = 0x72 ∷ 0x65 ∷ 0x63 ∷ 0x6f ∷ 0x72 ∷ 0x64 ∷ []
+
+-- ---- the lines
+
+-- a number alone
+abbrev pub numberRow : ℕ → Bytes
+numberRow n = row (decimal n) []
+
+-- "`quiet` or its millisecond"
+abbrev pub pingText : PingState → Bytes
+pingText Quiet = quietWord
+pingText (Out since) = decimal (since .0)
+
+-- of a ping
+abbrev pub pingFields : Bool → List Bytes
+pingFields due = pongWord ∷ cond due (pingWord ∷ []) []
+
+-- of a pong, where the head has this key
+abbrev pub pongFields : Standing → Bytes → List Bytes
+pongFields Tail key = tailWord ∷ []
+pongFields TookEntry key = tookEntryWord ∷ []
+pongFields (Waiting ping) key = waitingWord ∷ hex (take 8 key) ∷ pingText ping ∷ []
+
+-- what follows the number
+abbrev pub addedFields : Outcome → Bytes → List Bytes
+addedFields (Refused n) key = []
+addedFields (Ping p due) key = pingFields due
+addedFields (Pong p standing) key = pongFields standing key
+addedFields (FindNode p) key = findWord ∷ []
+addedFields (Neighbors p) key = nodesWord ∷ []
+addedFields (EnrRequest p) key = enrWord ∷ []
+addedFields (EnrResponse p) key = recordWord ∷ []
+
+-- the answer to an `rx`
+unfoldable pub receivedRow : Received → Bytes
+receivedRow r = row (decimal (numberOf r)) (addedFields (r .outcome) (r .head .key))

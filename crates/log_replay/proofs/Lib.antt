@@ -1,0 +1,6 @@
+pub mod Fields
+pub mod Memory
+pub mod OwnLine
+pub mod Lines
+pub mod Kept
+pub mod Replayed

@@ -1,0 +1,77 @@
+-- Before an `own` is accepted every call line gets 1 and changes nothing. Assumes nothing.
+use Prim.Native.Nat.{ℕ}
+use mathlib.Core.Path.{_≡_, refl, sym, ap, _∙_}
+use mathlib.Core.Bool.{Bool, true, false}
+use mathlib.Core.List.{[]}
+use native.Mathlib.Omega.{arith}
+use Rattle.octets.specs.Octets.{Bytes, part, numberFrom}
+use Rattle.lists.proofs.Laws.{never}
+use Rattle.lines.specs.Lines.{whole}
+use Rattle.log_line.specs.declared.Line.{Line}
+use Rattle.log_line.specs.declared.Line.the-variants.{Own, Rx, Sent, Sweep, Unreadable}
+use Rattle.log_line.specs.Forms.{lineOf}
+use Rattle.table_model.specs.Layout.{headerSound}
+use Rattle.table_model.specs.Sound.{tableSound}
+use Rattle.history.specs.Model.{Call, datagram, pingSent, sweep, closest}
+use Rattle.calls_model.specs.Calls.{answerOn, bytesAfter}
+use Rattle.calls_model.specs.Reading.{reading}
+use Rattle.calls_model.specs.AnyBytes.{SoundFor}
+use Rattle.calls_model.proofs.AnyBytes.{on-any-bytes}
+use Rattle.calls.specs.Answer.{received}
+use Rattle.answer_line.specs.AnswerLine.{numberRow, receivedRow}
+use Rattle.log_replay.specs.Replay.{State, said, withTable, lineAnswer, lineAfter, answer, after}
+
+-- no bytes are no table
+no-header : headerSound [] ≡ false
+unfolding headerSound part numberFrom
+no-header = refl
+
+nothing-sound : tableSound [] ≡ false
+unfolding tableSound
+nothing-sound = rw no-header refl
+
+not-sound : (c : Call) → SoundFor reading [] c → ⊥
+not-sound (datagram now unix address udp key bytes) h = never (sym (h .0) ∙ no-header)
+not-sound (pingSent now key address udp tcp hash) h = never (sym (h .0) ∙ no-header)
+not-sound (sweep now) h = never (sym h ∙ nothing-sound)
+not-sound (closest target room) h = never (sym h ∙ nothing-sound)
+
+pub no-table-number : (c : Call) → answerOn reading [] c ≡ 1
+no-table-number c = on-any-bytes reading .one-exactly [] c .1 (not-sound c)
+
+pub no-table-bytes : (c : Call) → bytesAfter reading [] c ≡ []
+no-table-bytes c = on-any-bytes reading .refused-unchanged [] c (λ z. absurd (omega (arith, no-table-number c)))
+
+no-table-received : (now unix : ℕ) (address : Bytes) (udp : ℕ) (key g : Bytes) → receivedRow (received [] now unix address udp key g) ≡ numberRow 1
+unfolding received receivedRow
+no-table-received now unix address udp key g = rw (no-table-number (datagram now unix address udp key g)) refl
+
+-- a line that calls
+abbrev pub isCallLine : Line → Bool
+isCallLine (Own buckets key) = false
+isCallLine (Rx now unix address port signer bytes) = true
+isCallLine (Sent now key address udp tcp hash) = true
+isCallLine (Sweep now) = true
+isCallLine Unreadable = false
+
+by-kind : (owned : Bool) (line : Bytes) (l : Line) → isCallLine l ≡ true
+    → (lineAnswer (record { owned = owned; table = [] }) line l ≡ numberRow 1) × (lineAfter (record { owned = owned; table = [] }) line l ≡ record { owned = owned; table = [] })
+unfolding lineAnswer lineAfter
+by-kind owned line (Own buckets key) h = never (sym h)
+by-kind owned line (Rx now unix address port signer bytes) h = (
+  no-table-received now unix (said line address) port (said line signer) (said line bytes),
+  ap (withTable (record { owned = owned; table = [] })) (no-table-bytes (datagram now unix (said line address) port (said line signer) (said line bytes))),
+)
+by-kind owned line (Sent now key address udp tcp hash) h =
+    let c : Call = pingSent now (said line key) (said line address) udp tcp (said line hash) in
+    (ap numberRow (no-table-number c), ap (withTable (record { owned = owned; table = [] })) (no-table-bytes c))
+by-kind owned line (Sweep now) h =
+    (ap numberRow (no-table-number (sweep now)), ap (withTable (record { owned = owned; table = [] })) (no-table-bytes (sweep now)))
+by-kind owned line Unreadable h = never (sym h)
+
+-- "a call line before an accepted `own` gets 1"
+pub no-table : (owned : Bool) (line : Bytes) → isCallLine (lineOf line) ≡ true
+    → (answer (record { owned = owned; table = [] }) (whole line) ≡ numberRow 1)
+    × (after (record { owned = owned; table = [] }) (whole line) ≡ record { owned = owned; table = [] })
+unfolding answer after
+no-table owned line h = by-kind owned line (lineOf line) h

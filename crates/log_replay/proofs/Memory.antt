@@ -1,0 +1,112 @@
+-- The table as the first bytes of the memory. Assumes nothing.
+use Prim.Native.Nat.{ℕ, _+_, _-_, _*_, _≤_}
+use mathlib.Core.Path.{_≡_, refl, sym, ap, _∙_}
+use mathlib.Core.Bool.{true, false}
+use mathlib.Core.List.{[], _∷_, _++_}
+use native.Mathlib.Omega.{arith}
+use borrow.Author.Tests.{eq-eqb, ne-eqb, eqb-true, eqb-false}
+use lib.Dec.{eqb}
+use lib.ListN.{length, take, drop, take-append-drop}
+use lib.Seq.{length-take-le}
+use Rattle.octets.specs.Octets.{Bytes, part, store}
+use Rattle.octets.proofs.Laws.{store-eq, part-store}
+use Rattle.lists.proofs.Laws.{byTest}
+use Rattle.lines.specs.Lines.{whole}
+use Rattle.log_line.specs.declared.Line.{Line}
+use Rattle.log_line.specs.Forms.{lineOf}
+use Rattle.log_replay.specs.declared.Replay.{Replay}
+use Rattle.log_replay.specs.declared.Stepped.{Stepped}
+use Rattle.log_replay.specs.Replay.{State, withTable, lineAnswer, lineAfter, answer, after}
+use Rattle.log_replay.specs.Steps.{sizeOf, stateOf, Answered, AnsweredLine}
+
+-- ---- sizes
+
+pub size-none : (count : ℕ) → count ≡ 0 → 0 ≡ sizeOf count
+unfolding sizeOf
+size-none count h = rw (eq-eqb count 0 h)
+
+pub size-some : (count : ℕ) → (count ≡ 0 → ⊥) → 512 + count * 2862 ≡ sizeOf count
+unfolding sizeOf
+size-some count h = rw (ne-eqb count 0 h)
+
+pub size-most : (count : ℕ) → count ≤ 16 → sizeOf count ≤ 46304
+size-most count h =
+    byTest (eqb count 0)
+    (λ t. omega (arith, size-none count (eqb-true count 0 t)))
+    (λ t. omega (arith, size-some count (eqb-false count 0 t)))
+
+-- ---- bytes at the front
+
+module _ (m : Bytes) (n : ℕ) (fits : n ≤ length m) where
+  -- a part of n bytes comes back as v
+  pub front-stored : (v : Bytes) → length v ≡ n → take 0 m ++ (v ++ drop (n - 0) (drop 0 m)) ≡ store m 0 v
+  front-stored v e =
+      let k : n - 0 ≡ 0 + length v = omega arith in
+      rw k (sym (store-eq v m 0 (omega arith)))
+
+  pub front-is : (v : Bytes) → length v ≡ n → take n (store m 0 v) ≡ v
+  unfolding part
+  front-is v e = rw (sym e) (part-store v m 0 (omega arith))
+
+  -- nothing changes where it comes back as it was
+  pub front-same : store m 0 (take n m) ≡ m
+  front-same =
+      let k : 0 + length (take n m) ≡ n = omega (arith, length-take-le n m fits) in
+      store-eq (take n m) m 0 (omega (arith, length-take-le n m fits)) ∙ rw k (take-append-drop n m)
+
+-- the part that is lent is the first bytes
+pub front-part : (m : Bytes) (n : ℕ) → take (n - 0) (drop 0 m) ≡ take n m
+front-part m n = let k : n - 0 ≡ n = omega arith in rw k refl
+
+-- ---- a line that is answered
+
+pub size-fits : (replay : Replay) (memory : Bytes) → 46304 ≤ length memory → replay .count ≤ 16 → sizeOf (replay .count) ≤ length memory
+size-fits replay memory big few = omega (arith, size-most (replay .count) few)
+
+module _ (replay : Replay) (memory out : Bytes) (big : 46304 ≤ length memory) (few : replay .count ≤ 16) where
+  -- where nothing changes
+  pub unchanged : {out′ : Bytes} {n : ℕ} (a : Bytes) → n ≡ length a → out′ ≡ store out 0 a → n ≤ 64
+      → Answered (stateOf replay memory) a memory out (record { replay = replay; len = n }) memory out′
+  unchanged a len written room =
+      record {
+        state = refl;
+        bytes = sym (front-same memory (sizeOf (replay .count)) (size-fits replay memory big few));
+        len = len;
+        written = written;
+        count = few;
+        room = room;
+      }
+
+  -- where a call answers `answers s` on the table s, and leaves `leaves s`
+  pub called : (answers leaves : Bytes → Bytes) (z : ℕ) → z ≡ sizeOf (replay .count) → {n : ℕ} {v m′ out′ : Bytes}
+      → n ≡ length (answers (take (z - 0) (drop 0 memory)))
+      → out′ ≡ store out 0 (answers (take (z - 0) (drop 0 memory)))
+      → v ≡ leaves (take (z - 0) (drop 0 memory)) → n ≤ 64
+      → length v ≡ length (take (z - 0) (drop 0 memory))
+      → m′ ≡ take 0 memory ++ (v ++ drop (z - 0) (drop 0 memory))
+      → Answered (withTable (stateOf replay memory) (leaves (take (sizeOf (replay .count)) memory))) (answers (take (sizeOf (replay .count)) memory)) memory out
+      (record { replay = replay; len = n }) m′ out′
+  called answers leaves z ez {n} {v} {m′} {out′} len written ev room kept em =
+      let lent : take (z - 0) (drop 0 memory) ≡ take (sizeOf (replay .count)) memory = front-part memory z ∙ ap (λ k. take k memory) ez in
+      let fits : z ≤ length memory = omega (arith, size-fits replay memory big few) in
+      let size : length v ≡ z = kept ∙ ap length (front-part memory z) ∙ length-take-le z memory fits in
+      let back : m′ ≡ store memory 0 v = em ∙ front-stored memory z fits v size in
+      let left : v ≡ leaves (take (sizeOf (replay .count)) memory) = ev ∙ ap leaves lent in
+      let there : take (sizeOf (replay .count)) m′ ≡ leaves (take (sizeOf (replay .count)) memory) =
+      ap (λ k. take k m′) (sym ez) ∙ ap (take z) back ∙ front-is memory z fits v size ∙ left in
+      record {
+        state = ap (withTable (stateOf replay memory)) there;
+        bytes = back ∙ ap (store memory 0) left;
+        len = len ∙ ap (λ s. length (answers s)) lent;
+        written = written ∙ ap (λ s. store out 0 (answers s)) lent;
+        count = few;
+        room = room;
+      }
+
+-- ---- by what the line says
+
+pub by-line : (replay : Replay) (line memory out : Bytes) (l : Line) {r : Stepped} {m′ out′ : Bytes} → lineOf line ≡ l
+    → Answered (lineAfter (stateOf replay memory) line l) (lineAnswer (stateOf replay memory) line l) memory out r m′ out′
+    → AnsweredLine replay (whole line) memory out r m′ out′
+unfolding after answer
+by-line replay line memory out l e h = rw e h

@@ -1,0 +1,103 @@
+-- The replay of a log (document 01, "Log and printout"): the answer to each line, and then the printout.
+use Prim.Native.Nat.{ℕ}
+use mathlib.Core.Bool.{Bool, true, false, cond, not, _&&_}
+use mathlib.Core.List.{List, [], _∷_, _++_, map}
+use lib.Dec.{eqb, leb}
+use lib.ListN.{length}
+use Rattle.octets.specs.Octets.{Bytes}
+use Rattle.lists.specs.Lists.{first, empty}
+use Rattle.text.specs.Hex.{unhex}
+use Rattle.lines.specs.Lines.{linesOf, Held, whole, tooLong, held}
+use Rattle.log_line.specs.declared.Span.{Span}
+use Rattle.log_line.specs.declared.Line.{Line}
+use Rattle.log_line.specs.declared.Line.the-variants.{Own, Rx, Sent, Sweep, Unreadable}
+use Rattle.log_line.specs.Fields.{text}
+use Rattle.log_line.specs.Forms.{lineOf}
+use Rattle.table.specs.Init.{freshTable}
+use Rattle.history.specs.Model.{datagram, pingSent, sweep}
+use Rattle.calls_model.specs.Calls.{answerOn, bytesAfter}
+use Rattle.calls_model.specs.Reading.{reading}
+use Rattle.calls.specs.Answer.{received}
+use Rattle.answer_line.specs.AnswerLine.{numberRow, receivedRow}
+use Rattle.printout.specs.Printout.{printout}
+
+-- `owned`: a well-formed `own` has come. `table` is empty until one is accepted.
+pub record State : Type 0 where
+  pub owned : Bool
+  pub table : Bytes
+
+abbrev pub startState : State
+startState = record { owned = false; table = [] }
+
+-- the bytes whose hex is a part of a line
+unfoldable pub said : Bytes → Span → Bytes
+said line f = unhex (text line f)
+
+-- ---- `own`
+
+-- "B outside 1 to 16 gets 1"
+abbrev pub isCount : ℕ → Bool
+isCount buckets = leb 1 buckets && leb buckets 16
+
+-- of the first well-formed one
+unfoldable pub ownNumber : ℕ → Bytes → ℕ
+ownNumber buckets key = first ((not (isCount buckets), 1) ∷ (not (eqb (length key) 64), 5) ∷ [])
+
+-- "an `own` after any well-formed one, gets 21"
+unfoldable pub ownAnswer : State → ℕ → Bytes → ℕ
+ownAnswer st buckets key = cond (st .owned) 21 (ownNumber buckets key)
+
+unfoldable pub ownAfter : State → ℕ → Bytes → State
+ownAfter st buckets key =
+    record { owned = true; table = cond (eqb (ownAnswer st buckets key) 0) (freshTable key buckets) (st .table) }
+
+-- ---- a line, by what it says
+
+unfoldable pub lineAnswer : State → Bytes → Line → Bytes
+lineAnswer st line (Own buckets key) = numberRow (ownAnswer st buckets (said line key))
+lineAnswer st line (Rx now unix address port signer bytes) =
+    receivedRow (received (st .table) now unix (said line address) port (said line signer) (said line bytes))
+lineAnswer st line (Sent now key address udp tcp hash) =
+    numberRow (answerOn reading (st .table) (pingSent now (said line key) (said line address) udp tcp (said line hash)))
+lineAnswer st line (Sweep now) = numberRow (answerOn reading (st .table) (sweep now))
+lineAnswer st line Unreadable = numberRow 21
+
+-- after a call the table is what the call leaves
+abbrev pub withTable : State → Bytes → State
+withTable st s = record { owned = st .owned; table = s }
+
+unfoldable pub lineAfter : State → Bytes → Line → State
+lineAfter st line (Own buckets key) = ownAfter st buckets (said line key)
+lineAfter st line (Rx now unix address port signer bytes) =
+    withTable st (bytesAfter reading (st .table) (datagram now unix (said line address) port (said line signer) (said line bytes)))
+lineAfter st line (Sent now key address udp tcp hash) =
+    withTable st (bytesAfter reading (st .table) (pingSent now (said line key) (said line address) udp tcp (said line hash)))
+lineAfter st line (Sweep now) = withTable st (bytesAfter reading (st .table) (sweep now))
+lineAfter st line Unreadable = st
+
+-- a line over the limit is of no form
+unfoldable pub answer : State → Held → Bytes
+answer st (whole line) = lineAnswer st line (lineOf line)
+answer st tooLong = numberRow 21
+
+unfoldable pub after : State → Held → State
+after st (whole line) = lineAfter st line (lineOf line)
+after st tooLong = st
+
+-- the states that lines lead to
+pub data Reached : State → Type 0 where
+  start : Reached startState
+  line : {st : State} → Reached st → (l : Held) → Reached (after st l)
+
+-- ---- the whole log
+
+-- "Then, if an `own` was accepted, the printout"
+abbrev pub ending : State → Bytes
+ending st = cond (empty (st .table)) [] (printout (st .table))
+
+abbrev pub outputFrom : State → List Held → Bytes
+outputFrom st [] = ending st
+outputFrom st (l ∷ ls) = answer st l ++ outputFrom (after st l) ls
+
+unfoldable pub replayed : Bytes → Bytes
+replayed log = outputFrom startState (map held (linesOf log))
