@@ -19,15 +19,28 @@ ghost use Rattle.counters.specs.Counters as counts;
 ghost use Rattle.discv4.specs.Closest.{listed, listAfter, found, numberAndCount, chosenNode, withChosen};
 ghost use Rattle.discv4.specs.Numbers.{writtenNumber, writtenSize, countOf};
 use calls::Choice;
-use calls::Received;
-use counters::Counters;
-use entry::MonotonicMillis;
-use entry::Node;
-use entry::UnixSeconds;
-use packet_items::EnrSeq;
-use packet_parts::NodeList;
-use packet_parts::Written;
-use packets::Span;
+// the types of the public functions
+pub use calls::Outcome;
+pub use calls::Received;
+pub use calls::Standing;
+pub use counters::Counters;
+pub use entry::Endpoint;
+pub use entry::MonotonicMillis;
+pub use entry::Node;
+pub use entry::PingState;
+pub use entry::UnixSeconds;
+pub use packet_items::EnrSeq;
+pub use packet_parts::NodeList;
+pub use packet_parts::Written;
+pub use packets::EnrRequest;
+pub use packets::EnrResponse;
+pub use packets::FindNode;
+pub use packets::Neighbors;
+pub use packets::Ping;
+pub use packets::Pong;
+pub use packets::Recipient;
+pub use packets::Sender;
+pub use packets::Span;
 
 // ---- a fresh table
 
