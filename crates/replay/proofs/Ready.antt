@@ -1,0 +1,84 @@
+-- The program stays ready from line to line. Assumes nothing.
+use Prim.Native.Nat.{ℕ, _+_, _≤_}
+use mathlib.Core.Path.{_≡_, sym, ap, _∙_}
+use mathlib.Core.Bool.{true}
+use native.Mathlib.Omega.{arith}
+use lib.ListN.{length}
+use Rattle.octets.specs.Octets.{Bytes}
+use Rattle.octets.proofs.Laws.{length-store}
+use Rattle.lines.specs.Lines.{Held}
+use Rattle.lines.specs.declared.Begun.{Begun}
+use Rattle.lines.specs.Steps.{fresh}
+use Rattle.log_replay.specs.declared.Replay.{Replay}
+use Rattle.log_replay.specs.declared.Stepped.{Stepped}
+use Rattle.log_replay.specs.Replay.{after, Reached, start, line}
+use Rattle.log_replay.specs.Steps.{stateOf, AnsweredLine}
+use Rattle.log_replay.proofs.Replayed.{startReplay, start-state}
+use Rattle.replay.specs.declared.Progress.{Progress}
+use Rattle.replay.specs.Progress.{Ready}
+
+fresh-size : (b : Begun) → b ≡ fresh → b .len ≤ 3000
+fresh-size b e = let n : b .len ≡ 0 = ap (λ (x : Begun). x .len) e in omega arith
+
+-- before the first line
+pub at-start : (memory buffer out : Bytes) (replay : Replay) (b : Begun) → 46304 ≡ length memory → 3000 ≡ length buffer → 65536 ≡ length out
+    → replay ≡ startReplay → b ≡ fresh → Ready memory buffer out (record { replay = replay; begun = b; used = 0; at = 0; more = true })
+at-start memory buffer out replay b em eb eo er e =
+    record {
+      memory-size = omega arith;
+      buffer-size = omega arith;
+      out-size = omega arith;
+      count = rw er (omega arith);
+      line-size = fresh-size b e;
+      used-size = omega arith;
+      reached = rw (er, start-state memory) start;
+    }
+
+-- a line was answered, at an index of the output with room for it
+pub after-line : {memory buffer out m′ o o′ : Bytes} {p : Progress} {r : Stepped} (l : Held) → Ready memory buffer out p
+    → AnsweredLine (p .replay) l memory o r m′ o′ → (out′ : Bytes) (at next : ℕ) (b : Begun) → b ≡ fresh → at + 64 ≤ length out → length out′ ≡ length out
+    → Ready m′ buffer out′ (record { replay = r .replay; begun = b; used = at + r .len; at = next; more = true })
+after-line {memory} {p = p} l h a out′ at next b eb room same =
+    record {
+      memory-size = omega (arith, ap length (a .bytes), length-store (after (stateOf (p .replay) memory) l .table) memory 0, h .memory-size);
+      buffer-size = h .buffer-size;
+      out-size = omega (arith, same, h .out-size);
+      count = a .count;
+      line-size = fresh-size b eb;
+      used-size = omega (arith, same, room, a .room);
+      reached = rw (a .state) (line (h .reached) l);
+    }
+
+-- the same table goes on, with another line begun
+pub going-on : {memory buffer out : Bytes} {p : Progress} → Ready memory buffer out p → (buffer′ out′ : Bytes) (r : Progress)
+    → length buffer′ ≡ length buffer → length out′ ≡ length out → r .replay ≡ p .replay → r .begun .len ≤ 3000 → r .used ≤ length out′
+    → Ready memory buffer′ out′ r
+going-on h buffer′ out′ r sb so same small used =
+    record {
+      memory-size = h .memory-size;
+      buffer-size = omega (arith, sb, h .buffer-size);
+      out-size = omega (arith, so, h .out-size);
+      count = rw same (h .count);
+      line-size = small;
+      used-size = used;
+      reached = rw same (h .reached);
+    }
+
+-- after a line over the limit
+pub after-long : {memory buffer out : Bytes} {p : Progress} → Ready memory buffer out p → (buffer′ out′ : Bytes) (r : Progress)
+    → length buffer′ ≡ length buffer → length out′ ≡ length out → (r .replay ≡ p .replay) × (r .begun ≡ fresh) → r .used ≤ length out′
+    → Ready memory buffer′ out′ r
+after-long h buffer′ out′ r sb so same used = going-on h buffer′ out′ r sb so (same .0) (fresh-size (r .begun) (same .1)) used
+
+-- the buffer changed, and kept its size
+pub buffered : {memory buffer out : Bytes} {p : Progress} → Ready memory buffer out p → (buffer′ : Bytes) → length buffer′ ≡ length buffer → Ready memory buffer′ out p
+buffered h buffer′ same =
+    record {
+      memory-size = h .memory-size;
+      buffer-size = omega (arith, same, h .buffer-size);
+      out-size = h .out-size;
+      count = h .count;
+      line-size = h .line-size;
+      used-size = h .used-size;
+      reached = h .reached;
+    }

@@ -1,0 +1,34 @@
+-- `replay::answer` meets its contract. Assumes nothing.
+use mathlib.Core.Path.{refl}
+use Rattle.lines.specs.Lines.{whole}
+use Rattle.replay.proofs.Ready.{after-line}
+use borrow.Author.Needs.{needs}
+use Rattle.replay.proofs.answer.Statement.{statement}
+use Rattle.replay.proofs.answer.Tie as tie
+
+same-length : tie.Need-same-length
+same-length c = search needs
+
+same-length-2 : tie.Need-same-length-2
+same-length-2 c = search needs
+
+returns : tie.Need-returns
+returns c = (after-line (whole _) (c .before .before .before .before .before .before .before .before .before .before .before .before .before .before .before .before .before .pre .0) (c .before .before .before .before .before .before .before .step .ensures) _ (c .before .before .before .before .before .before .before .before .before .before .before .make-room .result) (c .before .before .before .before .before .before .before .before .before .before .before .before .before .before .before .before .before .args .next) (c .before .new .result) (c .before .new .ensures) (c .before .before .before .before .before .before .before .before .before .before .before .make-room .ensures) (same-length-2 c), (refl, refl))
+
+pub answer-spec : {M : Type 1} → statement M
+answer-spec =
+    tie.close
+    (tie.spec
+    (λ c κs. search needs)
+    (λ c. search needs)
+    (λ c. search needs)
+    (λ c. search needs)
+    (λ c. search needs)
+    (λ c. search needs)
+    (λ c. search needs)
+    (λ c κs. search needs)
+    (λ c κs. search needs)
+    (λ c. search needs)
+    same-length
+    same-length-2
+    returns)

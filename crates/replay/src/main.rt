@@ -1,0 +1,267 @@
+// replay [FILE]: answers the lines of the log in the file, or of standard input, one line each, and then prints the table if an `own` was
+// accepted. A file that can't be opened is reported on standard error.
+ghost use mathlib.Core.Path.{_≡_};
+ghost use mathlib.Core.Bool.{true, false};
+ghost use Prim.Native.Nat.{_+_, _≤_, _<_};
+ghost use lib.ListN.{length};
+ghost use Rattle.lines.specs.Steps.{fresh};
+ghost use Rattle.log_replay.specs.Replay.{Reached};
+ghost use Rattle.log_replay.specs.Steps.{stateOf};
+ghost use Rattle.replay.specs.Progress.{Ready, left};
+use libc::STDIN_FILENO;
+use libc::STDOUT_FILENO;
+use lines::Begun;
+use lines::LIMIT;
+use lines::Last;
+use lines::Step;
+use log_replay::MEMORY;
+use log_replay::Replay;
+
+struct Progress {
+    replay: Replay,
+    begun: Begun,
+    // The bytes of output that wait to be written.
+    used: usize,
+    // Where the chunk goes on, and whether there is more of it.
+    at: usize,
+    more: bool,
+}
+
+fn write_out(bytes: &[u8]) {
+    if !io::write_all(STDOUT_FILENO, bytes) {
+        os::fail(b"write");
+    }
+}
+
+// Where the next answer goes: the output is written out where it might find no room.
+fn make_room(out: &[u8], used: usize) -> usize
+    requires { ⌜ (65536 ≤ length (now out)) × (used ≤ length (now out)) ⌝ }
+    ensures { λ r. ⌜ r + 64 ≤ length (now (out .entry)) ⌝ }
+{
+    if used <= 65472 {
+        return used;
+    }
+    write_out(&out[0..used]);
+    0
+}
+
+// Answers the line of `len` bytes in the buffer, after which the chunk goes on at `next`.
+fn answer(
+    memory: &mut [u8],
+    buffer: &[u8],
+    out: &mut [u8],
+    p: Progress,
+    len: usize,
+    next: usize,
+) -> Progress
+    requires { ⌜ Ready (now memory) (now buffer) (now out) p × (len ≤ 3000) ⌝ }
+    ensures ready { λ r. ⌜ Ready (now (memory .exit)) (now (buffer .entry)) (now (out .exit)) r ⌝ }
+    ensures on { λ r. ⌜ (r .at ≡ next) × (r .more ≡ true) ⌝ }
+{
+    let replay = p.replay;
+    let at = make_room(out, p.used);
+    let stepped = log_replay::step(memory, &mut out[at..], replay, &buffer[0..len]);
+    let replay = stepped.replay;
+    let begun = Begun::new();
+    Progress {
+        replay,
+        begun,
+        used: at + stepped.len,
+        at: next,
+        more: true,
+    }
+}
+
+// Answers a line over the limit.
+fn answer_long(out: &mut [u8], p: Progress, next: usize) -> Progress
+    requires { ⌜ (65536 ≤ length (now out)) × (p .used ≤ length (now out)) ⌝ }
+    ensures same { λ r. ⌜ (r .replay ≡ p .replay) × (r .begun ≡ fresh) ⌝ }
+    ensures used { λ r. ⌜ r .used ≤ length (now (out .exit)) ⌝ }
+    ensures on { λ r. ⌜ (r .at ≡ next) × (r .more ≡ true) ⌝ }
+{
+    let replay = p.replay;
+    let at = make_room(out, p.used);
+    let len = log_replay::too_long(&mut out[at..]);
+    let begun = Begun::new();
+    Progress {
+        replay,
+        begun,
+        used: at + len,
+        at: next,
+        more: true,
+    }
+}
+
+// Takes the chunk up to its next 0A or its end, and answers the line that ended.
+fn turn(memory: &mut [u8], buffer: &mut [u8], out: &mut [u8], chunk: &[u8], p: Progress) -> Progress
+    requires { ⌜ Ready (now memory) (now buffer) (now out) p × ((p .at ≤ length (now chunk)) × (p .more ≡ true)) ⌝ }
+    ensures ready { λ r. ⌜ Ready (now (memory .exit)) (now (buffer .exit)) (now (out .exit)) r ⌝ }
+    ensures on { λ r. ⌜ (r .at ≤ length (now (chunk .entry))) × (left (now (chunk .entry)) r < left (now (chunk .entry)) p) ⌝ }
+{
+    let begun = p.begun;
+    let at = p.at;
+    match lines::next_line(buffer, begun, chunk, at) {
+        Step::Line { len, next } => answer(memory, buffer, out, p, len, next),
+        Step::TooLong { next } => answer_long(out, p, next),
+        Step::More(begun) => {
+            let replay = p.replay;
+            Progress {
+                replay,
+                begun,
+                used: p.used,
+                at,
+                more: false,
+            }
+        }
+    }
+}
+
+// Answers the lines that end in a chunk.
+fn answer_chunk(
+    memory: &mut [u8],
+    buffer: &mut [u8],
+    out: &mut [u8],
+    chunk: &[u8],
+    p: Progress,
+) -> Progress
+    requires { ⌜ Ready (now memory) (now buffer) (now out) p ⌝ }
+    ensures { λ r. ⌜ Ready (now (memory .exit)) (now (buffer .exit)) (now (out .exit)) r ⌝ }
+{
+    let mut q = p;
+    q.at = 0;
+    q.more = true;
+    while q.more {
+        q = turn(memory, buffer, out, chunk, q);
+    }
+    q
+}
+
+// Reads one chunk and answers its lines; there is no more at the log's end, or where a read fails.
+fn read_chunk(
+    fd: i32,
+    name: &[u8],
+    memory: &mut [u8],
+    buffer: &mut [u8],
+    out: &mut [u8],
+    p: Progress,
+) -> Progress
+    requires { ⌜ Ready (now memory) (now buffer) (now out) p ⌝ }
+    ensures { λ r. ⌜ Ready (now (memory .exit)) (now (buffer .exit)) (now (out .exit)) r ⌝ }
+{
+    let mut q = p;
+    q.more = false;
+    let mut chunk = io::large_buffer();
+    let got = libc::read(fd, &mut chunk);
+    if got < 0 {
+        os::fail(name);
+        return q;
+    }
+    if got == 0 {
+        return q;
+    }
+    let n = io::count(got, &chunk);
+    let mut r = answer_chunk(memory, buffer, out, &chunk[0..n], q);
+    r.more = true;
+    r
+}
+
+// Reads the whole log. Nothing says that a log ends: the turns are counted down from a number that no run uses up.
+fn read_log(
+    fd: i32,
+    name: &[u8],
+    memory: &mut [u8],
+    buffer: &mut [u8],
+    out: &mut [u8],
+    p: Progress,
+) -> Progress
+    requires { ⌜ Ready (now memory) (now buffer) (now out) p ⌝ }
+    ensures { λ r. ⌜ Ready (now (memory .exit)) (now (buffer .exit)) (now (out .exit)) r ⌝ }
+{
+    let mut q = p;
+    q.more = true;
+    let mut turns = u64::MAX;
+    while turns > 0 && q.more {
+        q = read_chunk(fd, name, memory, buffer, out, q);
+        turns -= 1;
+    }
+    q
+}
+
+// Answers a last line without 0A.
+fn answer_last(memory: &mut [u8], buffer: &[u8], out: &mut [u8], p: Progress) -> Progress
+    requires { ⌜ Ready (now memory) (now buffer) (now out) p ⌝ }
+    ensures { λ r. ⌜ Ready (now (memory .exit)) (now (buffer .entry)) (now (out .exit)) r ⌝ }
+{
+    let begun = p.begun;
+    match lines::last_line(begun) {
+        Last::Line { len } => answer(memory, buffer, out, p, len, 0),
+        Last::TooLong => answer_long(out, p, 0),
+        Last::Nothing => p,
+    }
+}
+
+// Prints the table, if there is one.
+fn print_table(memory: &[u8], out: &mut [u8], replay: Replay)
+    requires { ⌜ (46304 ≤ length (now memory)) × ((65536 ≤ length (now out)) × ((replay .count ≤ 16) × Reached (stateOf replay (now memory)))) ⌝ }
+{
+    if replay.count == 0 {
+        return;
+    }
+    let size = replay.size();
+    let n = printout::put_table(out, &memory[0..size]);
+    write_out(&out[0..n]);
+}
+
+// Zeros for the table. Each `ensures` gives the length, which lending the array as a slice needs.
+fn table_memory() -> [u8; MEMORY]
+    ensures { λ r. ⌜ 46304 ≡ length r ⌝ }
+{
+    [0; MEMORY]
+}
+
+// Zeros for a line.
+fn line_buffer() -> [u8; LIMIT]
+    ensures { λ r. ⌜ 3000 ≡ length r ⌝ }
+{
+    [0; LIMIT]
+}
+
+fn replay_log(fd: i32, name: &[u8]) {
+    let mut memory = table_memory();
+    let mut buffer = line_buffer();
+    let mut out = io::large_buffer();
+    let replay = Replay::new();
+    let begun = Begun::new();
+    let p = Progress {
+        replay,
+        begun,
+        used: 0,
+        at: 0,
+        more: true,
+    };
+    let q = read_log(fd, name, &mut memory, &mut buffer, &mut out, p);
+    let r = answer_last(&mut memory, &buffer, &mut out, q);
+    let used = r.used;
+    write_out(&out[0..used]);
+    print_table(&memory, &mut out, r.replay);
+}
+
+fn main() {
+    if os::arg_count() < 2 {
+        replay_log(STDIN_FILENO, b"standard input");
+        return;
+    }
+    let mut path = io::buffer();
+    let length = os::arg(1, &mut path);
+    if os::errno() != 0 {
+        os::fail(b"path");
+        return;
+    }
+    let fd = os::open_read(&path[..length]);
+    if fd < 0 {
+        os::fail(&path[..length]);
+        return;
+    }
+    replay_log(fd, &path[..length]);
+    libc::close(fd);
+}
