@@ -4,13 +4,10 @@
 use Prim.Native.Nat.{ℕ}
 use mathlib.Core.Bool.{Bool, cond}
 use mathlib.Core.List.{List, [], _∷_}
-use lib.ListN.{take}
 use Rattle.octets.specs.Octets.{Bytes}
 use Rattle.text.specs.Decimals.{decimal}
-use Rattle.text.specs.Hex.{hex}
 use Rattle.text.specs.Rows.{row}
-use Rattle.entry.specs.declared.PingState.{PingState}
-use Rattle.entry.specs.declared.PingState.the-variants.{Quiet, Out}
+use Rattle.rows.specs.Rows.{entryWord, replacementWord, keyText, pingText}
 use Rattle.calls.specs.declared.Standing.{Standing}
 use Rattle.calls.specs.declared.Standing.the-variants.{Tail, TookEntry, Waiting}
 use Rattle.calls.specs.declared.Outcome.{Outcome}
@@ -31,18 +28,6 @@ pingWord = 0x70 ∷ 0x69 ∷ 0x6e ∷ 0x67 ∷ []
 -- `tail`
 abbrev pub tailWord : Bytes
 tailWord = 0x74 ∷ 0x61 ∷ 0x69 ∷ 0x6c ∷ []
-
--- `seat`
-abbrev pub tookEntryWord : Bytes
-tookEntryWord = 0x73 ∷ 0x65 ∷ 0x61 ∷ 0x74 ∷ []
-
--- `wait`
-abbrev pub waitingWord : Bytes
-waitingWord = 0x77 ∷ 0x61 ∷ 0x69 ∷ 0x74 ∷ []
-
--- `quiet`
-abbrev pub quietWord : Bytes
-quietWord = 0x71 ∷ 0x75 ∷ 0x69 ∷ 0x65 ∷ 0x74 ∷ []
 
 -- `find`
 abbrev pub findWord : Bytes
@@ -66,11 +51,6 @@ recordWord = 0x72 ∷ 0x65 ∷ 0x63 ∷ 0x6f ∷ 0x72 ∷ 0x64 ∷ []
 abbrev pub numberRow : ℕ → Bytes
 numberRow n = row (decimal n) []
 
--- "`quiet` or its millisecond"
-abbrev pub pingText : PingState → Bytes
-pingText Quiet = quietWord
-pingText (Out since) = decimal (since .0)
-
 -- of a ping
 abbrev pub pingFields : Bool → List Bytes
 pingFields due = pongWord ∷ cond due (pingWord ∷ []) []
@@ -78,8 +58,8 @@ pingFields due = pongWord ∷ cond due (pingWord ∷ []) []
 -- of a pong, where the head has this key
 abbrev pub pongFields : Standing → Bytes → List Bytes
 pongFields Tail key = tailWord ∷ []
-pongFields TookEntry key = tookEntryWord ∷ []
-pongFields (Waiting ping) key = waitingWord ∷ hex (take 8 key) ∷ pingText ping ∷ []
+pongFields TookEntry key = entryWord ∷ []
+pongFields (Waiting ping) key = replacementWord ∷ keyText key ∷ pingText ping ∷ []
 
 -- what follows the number
 abbrev pub addedFields : Outcome → Bytes → List Bytes

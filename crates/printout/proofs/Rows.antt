@@ -1,12 +1,12 @@
 -- Rows one after the other: what is still to be written of them. Assumes nothing.
-use mathlib.Core.Path.{_≡_, refl, sym, ap, _∙_}
+use mathlib.Core.Path.{_≡_, sym, ap, _∙_}
 use mathlib.Core.List.{List, [], _∷_, _++_, append-assoc, append-nil}
 use Prim.Native.Nat.{ℕ, suc, _+_, _-_, _*_, _≤_, _<_}
 use native.Mathlib.Numerals.{add-one}
 use native.Mathlib.Omega.{arith}
 use lib.ListN.{length, drop, drop-of-length-le}
 use lib.Seq.{drop-cons}
-use Rattle.octets.specs.Octets.{Bytes, part, store}
+use Rattle.octets.specs.Octets.{Bytes, part}
 use Rattle.lists.specs.Lists.{All}
 use Rattle.entry.specs.declared.Entry.{Entry}
 use Rattle.entry.specs.Layout.{decodeEntry}
@@ -18,7 +18,9 @@ use Rattle.rlp.proofs.Writing.{Wrote}
 use Rattle.packet_parts.proofs.Progress.{Progress, concat, start, finish}
 use Rattle.text.specs.Decimals.{decimal}
 use Rattle.text.specs.Rows.{tabbed, row}
-use Rattle.printout.specs.Printout.{tableWord, rowEnd, entryTotal, replacementTotal, tableRow, entryRow, entryRows, bucketRows, bucketsRows}
+use Rattle.rows.specs.Rows.{rowEnd}
+use Rattle.rows.proofs.Rows.{pieces, pieces-are, tabbed-append}
+use Rattle.printout.specs.Printout.{tableWord, entryTotal, replacementTotal, tableRow, entryRow, entryRows, bucketRows, bucketsRows}
 
 -- ---- a text that is written part by part
 
@@ -51,21 +53,7 @@ module _ (d : Bytes) (at : ℕ) (x : Bytes) where
   pub finish-one : {d′ : Bytes} {n : ℕ} → Progress d at (x ∷ []) [] d′ n → Wrote d at x d′ n
   finish-one p = finish p (append-nil x)
 
--- ---- a field whose text is that of a known value
-
-module _ {A : Type 0} (text : A → Bytes) {x y : A} (e : x ≡ y) where
-  pub field-fits : (at : ℕ) {n : ℕ} → at + length (0x09 ∷ text x) ≤ n → at + length (0x09 ∷ text y) ≤ n
-  field-fits at h = omega (arith, ap (λ (a : A). length (text a)) e)
-
-  pub field-wrote : (d : Bytes) (at : ℕ) {d′ : Bytes} {r : ℕ} → Wrote d at (0x09 ∷ text y) d′ r → Wrote d at (0x09 ∷ text x) d′ r
-  field-wrote d at w =
-      (w .0 ∙ ap (λ (a : A). at + length (0x09 ∷ text a)) (sym e), w .1 ∙ ap (λ (a : A). store d at (0x09 ∷ text a)) (sym e))
-
 -- ---- a row that is written in four parts
-
-pub tabbed-append : (a b : List Bytes) → tabbed (a ++ b) ≡ tabbed a ++ tabbed b
-tabbed-append [] b = refl
-tabbed-append (f ∷ a) b = ap (λ (t : Bytes). 0x09 ∷ f ++ t) (tabbed-append a b) ∙ ap (λ (t : Bytes). 0x09 ∷ t) (sym (append-assoc f (tabbed a) (tabbed b)))
 
 pub row-parts : (word : Bytes) (a : List Bytes) (f : Bytes) (b c : List Bytes)
     → concat ((word ++ tabbed a) ∷ (0x09 ∷ f) ∷ tabbed b ∷ (tabbed c ++ rowEnd) ∷ []) ≡ row word (a ++ (f ∷ (b ++ c)))
@@ -75,9 +63,10 @@ row-parts word a f b c =
 
 pub head-parts : (s : Bytes) {count clock entries replacements : ℕ}
     → count ≡ countOf s → clock ≡ clockOf s → entries ≡ entryTotal (bucketsOf s) → replacements ≡ replacementTotal (bucketsOf s)
-    → concat (tableWord ∷ (0x09 ∷ decimal count) ∷ (0x09 ∷ decimal clock) ∷ (0x09 ∷ decimal entries) ∷ (0x09 ∷ decimal replacements) ∷ rowEnd ∷ []) ≡ tableRow s
+    → concat (pieces tableWord (decimal count ∷ decimal clock ∷ decimal entries ∷ decimal replacements ∷ [])) ≡ tableRow s
 unfolding tableRow
-head-parts s e₁ e₂ e₃ e₄ = rw (e₁, e₂, e₃, e₄) (simp append-assoc)
+head-parts s {count} {clock} {entries} {replacements} e₁ e₂ e₃ e₄ =
+    pieces-are tableWord (decimal count ∷ decimal clock ∷ decimal entries ∷ decimal replacements ∷ []) ∙ rw (e₁, e₂, e₃, e₄)
 
 -- ---- the rows of entries in bytes
 

@@ -1,25 +1,24 @@
 -- How long the rows of a sound table get. Assumes nothing.
-use mathlib.Core.Path.{_≡_, refl, _∙_}
+use mathlib.Core.Path.{_≡_}
 use mathlib.Core.Bool.{true}
-use mathlib.Core.List.{List, [], _∷_, _++_}
+use mathlib.Core.List.{List, [], _∷_}
 use Prim.Native.Nat.{ℕ, suc, _+_, _-_, _*_, _≤_, _<_}
 use native.Mathlib.Omega.{arith}
-use lib.ListN.{length, take, getD, length-append, length-take}
+use lib.ListN.{length, getD, length-append, length-take}
 use Rattle.octets.specs.Octets.{Bytes, IsBytes}
 use Rattle.lists.specs.Lists.{All}
 use Rattle.lists.proofs.Laws.{at-All}
 use Rattle.text.specs.Decimals.{decimal}
 use Rattle.text.specs.Hex.{hex}
-use Rattle.text.specs.Rows.{tabbed}
 use Rattle.text.proofs.Decimals.{length-below, length-bound}
 use Rattle.text.proofs.Hex.{length-hex}
+use Rattle.rows.specs.Rows.{entryWord, replacementWord, keyText, pingText}
+use Rattle.rows.proofs.Rows.{length-row, key-bound, ping-bound}
 use Rattle.distance.specs.Distance.{home}
 use Rattle.entry.specs.declared.Entry.{Entry}
 use Rattle.entry.specs.declared.EndpointProof.{EndpointProof}
 use Rattle.entry.specs.declared.EndpointProof.the-variants.{Unproved, At}
-use Rattle.entry.specs.declared.PingState.{PingState}
-use Rattle.entry.specs.declared.PingState.the-variants.{Quiet, Out}
-use Rattle.entry.proofs.Laws.{IsEntry, ProofFits, PingFits}
+use Rattle.entry.proofs.Laws.{IsEntry, ProofFits}
 use Rattle.bucket_model.specs.Contents.{Contents, noContents}
 use Rattle.bucket_model.specs.Rules.{addressOf}
 use Rattle.bucket_model.proofs.ByteForm.{IsContents}
@@ -28,45 +27,28 @@ use Rattle.table_model.specs.Layout.{ownOf, clockOf, countOf, numberOf, buckets
 use Rattle.table_model.specs.Sound.{tableSound}
 use Rattle.table_model.proofs.Sound.{sound-is-table}
 use Rattle.table_model.proofs.Table.{count-read}
-use Rattle.printout.specs.Printout.{proofText, pingText, entryWord, replacementWord, tableWord, entryRow, entryRows, bucketRows, bucketsRows, entryTotal, replacementTotal, tableRow, printout}
+use Rattle.printout.specs.Printout.{proofText, tableWord, entryRow, entryRows, bucketRows, bucketsRows, entryTotal, replacementTotal, tableRow, printout}
 use Rattle.printout.specs.Held.{room}
-
--- the lengths of texts, with one for the tab before each
-abbrev tabbedSize : List Bytes → ℕ
-tabbedSize [] = 0
-tabbedSize (f ∷ fs) = 1 + length f + tabbedSize fs
-
-length-tabbed : (fs : List Bytes) → length (tabbed fs) ≡ tabbedSize fs
-length-tabbed [] = refl
-length-tabbed (f ∷ fs) = omega (arith, length-append f (tabbed fs), length-tabbed fs)
-
-length-row : (first : Bytes) (more : List Bytes) → length (first ++ tabbed more ++ (0x0a ∷ [])) ≡ length first + tabbedSize more + 1
-length-row first more = length-append (first ++ tabbed more) (0x0a ∷ []) ∙ omega (arith, length-append first (tabbed more), length-tabbed more)
-
-hex-bound : (n : ℕ) (s : Bytes) → length s ≤ n → length (hex s) ≤ 2 * n
-hex-bound n s h = omega (arith, length-hex s)
 
 proof-bound : (p : EndpointProof) → ProofFits p → length (proofText p) ≤ 20
 proof-bound Unproved h = omega arith
 proof-bound (At t) h = length-bound (t .0) h
-
-ping-bound : (p : PingState) → PingFits p → length (pingText p) ≤ 20
-ping-bound Quiet h = omega arith
-ping-bound (Out t) h = length-bound (t .0) h
 
 -- 4+1+3+1+2+1+16+1+32+1+5+1+5+1+20+1+20+1+20+1
 entry-bound : (word : Bytes) (number place : ℕ) (e : Entry) → length word ≤ 4 → number < 1000 → place < 100 → IsEntry e
     → length (entryRow word number place e) ≤ 137
 unfolding entryRow
 entry-bound word number place e hw hn hp is =
-    let texts : List Bytes = decimal number ∷ decimal place ∷ hex (take 8 (e .key)) ∷ hex (addressOf (e .endpoint)) ∷ decimal (e .endpoint .udp) ∷ decimal (e .endpoint .tcp) ∷ decimal (e .seen .0) ∷ proofText (e .proof) ∷ pingText (e .ping) ∷ [] in
+    let texts : List Bytes = decimal number ∷ decimal place ∷ keyText (e .key) ∷ hex (addressOf (e .endpoint)) ∷ decimal (e .endpoint .udp) ∷ decimal (e .endpoint .tcp) ∷ decimal (e .seen .0) ∷ proofText (e .proof) ∷ pingText (e .ping) ∷ [] in
     omega (
       arith,
       length-row word texts,
       length-below 2 number hn,
       length-below 1 place hp,
-      hex-bound 8 (take 8 (e .key)) (omega (arith, length-take 8 (e .key))),
-      hex-bound 16 (addressOf (e .endpoint)) (omega (arith, length-take (e .endpoint .len) (e .endpoint .address), is .address)),
+      key-bound (e .key),
+      length-hex (addressOf (e .endpoint)),
+      length-take (e .endpoint .len) (e .endpoint .address),
+      is .address,
       length-below 4 (e .endpoint .udp) (omega (arith, is .udp)),
       length-below 4 (e .endpoint .tcp) (omega (arith, is .tcp)),
       length-bound (e .seen .0) (is .seen),

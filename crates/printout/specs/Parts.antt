@@ -5,12 +5,13 @@ use Rattle.octets.specs.Octets.{Bytes}
 use Rattle.text.specs.Decimals.{decimal}
 use Rattle.text.specs.Hex.{hex}
 use Rattle.text.specs.Rows.{tabbed}
+use Rattle.rows.specs.Rows.{rowEnd, pingText}
 use Rattle.entry.specs.declared.Endpoint.{Endpoint}
 use Rattle.entry.specs.declared.MonotonicMillis.{MonotonicMillis}
 use Rattle.entry.specs.declared.EndpointProof.{EndpointProof}
 use Rattle.entry.specs.declared.PingState.{PingState}
 use Rattle.bucket_model.specs.Rules.{addressOf}
-use Rattle.printout.specs.Printout.{rowEnd, proofText, pingText}
+use Rattle.printout.specs.Printout.{proofText}
 
 -- the word, the distance and the place
 abbrev pub placeText : Bytes → ℕ → ℕ → Bytes

@@ -3,16 +3,15 @@
 -- none), `quiet` or the millisecond."
 use Prim.Native.Nat.{ℕ, suc, _+_, _-_}
 use mathlib.Core.List.{List, [], _∷_, _++_}
-use lib.ListN.{length, take}
+use lib.ListN.{length}
 use Rattle.octets.specs.Octets.{Bytes}
 use Rattle.text.specs.Decimals.{decimal}
 use Rattle.text.specs.Hex.{hex}
 use Rattle.text.specs.Rows.{row}
+use Rattle.rows.specs.Rows.{entryWord, replacementWord, keyText, pingText}
 use Rattle.entry.specs.declared.Entry.{Entry}
 use Rattle.entry.specs.declared.EndpointProof.{EndpointProof}
 use Rattle.entry.specs.declared.EndpointProof.the-variants.{Unproved, At}
-use Rattle.entry.specs.declared.PingState.{PingState}
-use Rattle.entry.specs.declared.PingState.the-variants.{Quiet, Out}
 use Rattle.bucket_model.specs.Contents.{Contents}
 use Rattle.bucket_model.specs.Rules.{addressOf}
 use Rattle.table_model.specs.Layout.{clockOf, countOf, bucketsOf}
@@ -23,25 +22,9 @@ use Rattle.table_model.specs.Layout.{clockOf, countOf, bucketsOf}
 abbrev pub tableWord : Bytes
 tableWord = 0x74 ∷ 0x61 ∷ 0x62 ∷ 0x6c ∷ 0x65 ∷ []
 
--- `seat`, of document 01's seats
-abbrev pub entryWord : Bytes
-entryWord = 0x73 ∷ 0x65 ∷ 0x61 ∷ 0x74 ∷ []
-
--- `wait`, of document 01's waiting line
-abbrev pub replacementWord : Bytes
-replacementWord = 0x77 ∷ 0x61 ∷ 0x69 ∷ 0x74 ∷ []
-
 -- `-`
 abbrev pub noProof : Bytes
 noProof = 0x2d ∷ []
-
--- `quiet`
-abbrev pub quietWord : Bytes
-quietWord = 0x71 ∷ 0x75 ∷ 0x69 ∷ 0x65 ∷ 0x74 ∷ []
-
--- what a row ends in
-abbrev pub rowEnd : Bytes
-rowEnd = 0x0a ∷ []
 
 -- ---- one entry
 
@@ -50,17 +33,12 @@ abbrev pub proofText : EndpointProof → Bytes
 proofText Unproved = noProof
 proofText (At t) = decimal (t .0)
 
--- "`quiet` or the millisecond"
-abbrev pub pingText : PingState → Bytes
-pingText Quiet = quietWord
-pingText (Out t) = decimal (t .0)
-
 -- "distance, place, first 8 key bytes, address, ports, last seen, proof, .."; the distance is the logarithmic one, the number of the bucket
 unfoldable pub entryRow : Bytes → ℕ → ℕ → Entry → Bytes
 entryRow word number place e =
     row word (decimal number
     ∷ decimal place
-    ∷ hex (take 8 (e .key))
+    ∷ keyText (e .key)
     ∷ hex (addressOf (e .endpoint))
     ∷ decimal (e .endpoint .udp)
     ∷ decimal (e .endpoint .tcp)

@@ -5,12 +5,10 @@ ghost use mathlib.Core.List.{_∷_};
 ghost use Prim.Native.Nat.{_+_, _-_, _≤_, _<_};
 ghost use lib.ListN.{length};
 ghost use Rattle.octets.specs.Octets.{store};
-ghost use Rattle.text.specs.Decimals.{decimal};
-ghost use Rattle.text.specs.Hex.{hex};
 ghost use Rattle.bucket_model.specs.Contents.{entriesAt};
 ghost use Rattle.table_model.specs.Layout.{countOf, bucketAt, bucketsOf};
 ghost use Rattle.table_model.specs.Sound.{tableSound};
-ghost use Rattle.printout.specs.Printout.{rowEnd, proofText, pingText, entryRow, entryRows, bucketRows, bucketsRows, entryTotal, replacementTotal, tableRow, printout};
+ghost use Rattle.printout.specs.Printout.{proofText, entryRow, entryRows, bucketRows, bucketsRows, entryTotal, replacementTotal, tableRow, printout};
 ghost use Rattle.printout.specs.Parts.{placeText, endpointText, timesText};
 ghost use Rattle.printout.specs.Held.{HasAddress, EntriesIn, BucketIn, room};
 use entry::Endpoint;
@@ -18,62 +16,28 @@ use entry::EndpointProof;
 use entry::Entry;
 use entry::MonotonicMillis;
 use entry::PingState;
+use rows::decimal_field;
+use rows::hex_field;
+use rows::key_field;
+use rows::ping_field;
+use rows::put_end;
+use rows::put_word;
+use rows::word_field;
 
 // The bytes that the printout of a table of up to 16 buckets can take: a row of 37 bytes, and 16 × 20 rows of 137.
-pub const ROOM: usize = 43877;
+pub const ROOM: usize = 37 + 16 * 20 * 137;
 
-// Each `put_` function writes its text from index `at`, and returns the index after it.
-
-fn put_word(out: &mut [u8], at: usize, word: &[u8]) -> usize
-    requires { ⌜ at + length (now word) ≤ length (now out) ⌝ }
-    ensures next { λ r. ⌜ r ≡ at + length (now (word .entry)) ⌝ }
-    ensures bytes { λ _. ⌜ now (out .exit) ≡ store (now (out .entry)) at (now (word .entry)) ⌝ }
+// The bytes that `put_table` asks for.
+pub fn asked_room() -> usize
+    ensures { λ r. ⌜ r ≡ room ⌝ }
 {
-    octets::put_bytes(out, at, word);
-    at + word.len()
+    ROOM
 }
 
-// The end of a row.
-fn put_end(out: &mut [u8], at: usize) -> usize
-    requires { ⌜ at + 1 ≤ length (now out) ⌝ }
-    ensures next { λ r. ⌜ r ≡ at + length rowEnd ⌝ }
-    ensures bytes { λ _. ⌜ now (out .exit) ≡ store (now (out .entry)) at rowEnd ⌝ }
-{
-    out[at] = b'\n';
-    at + 1
-}
+// Each function that writes does so from index `at`, and returns the index after its text.
 
-// A field that is a word.
-fn word_field(out: &mut [u8], at: usize, word: &[u8]) -> usize
-    requires { ⌜ at + length (0x09 ∷ now word) ≤ length (now out) ⌝ }
-    ensures next { λ r. ⌜ r ≡ at + length (0x09 ∷ now (word .entry)) ⌝ }
-    ensures bytes { λ _. ⌜ now (out .exit) ≡ store (now (out .entry)) at (0x09 ∷ now (word .entry)) ⌝ }
-{
-    out[at] = b'\t';
-    put_word(out, at + 1, word)
-}
-
-// A field that is a decimal.
-fn decimal_field(out: &mut [u8], at: usize, n: u64) -> usize
-    requires { ⌜ at + length (0x09 ∷ decimal n) ≤ length (now out) ⌝ }
-    ensures next { λ r. ⌜ r ≡ at + length (0x09 ∷ decimal n) ⌝ }
-    ensures bytes { λ _. ⌜ now (out .exit) ≡ store (now (out .entry)) at (0x09 ∷ decimal n) ⌝ }
-{
-    out[at] = b'\t';
-    text::put_decimal(out, at + 1, n)
-}
-
-// A field that is hex.
-fn hex_field(out: &mut [u8], at: usize, bytes: &[u8]) -> usize
-    requires { ⌜ at + length (0x09 ∷ hex (now bytes)) ≤ length (now out) ⌝ }
-    ensures next { λ r. ⌜ r ≡ at + length (0x09 ∷ hex (now (bytes .entry))) ⌝ }
-    ensures bytes { λ _. ⌜ now (out .exit) ≡ store (now (out .entry)) at (0x09 ∷ hex (now (bytes .entry))) ⌝ }
-{
-    out[at] = b'\t';
-    text::put_hex(out, at + 1, bytes)
-}
-
-fn put_proof(out: &mut [u8], at: usize, proof: EndpointProof) -> usize
+// A field that is a proof.
+fn proof_field(out: &mut [u8], at: usize, proof: EndpointProof) -> usize
     requires { ⌜ at + length (0x09 ∷ proofText proof) ≤ length (now out) ⌝ }
     ensures next { λ r. ⌜ r ≡ at + length (0x09 ∷ proofText proof) ⌝ }
     ensures bytes { λ _. ⌜ now (out .exit) ≡ store (now (out .entry)) at (0x09 ∷ proofText proof) ⌝ }
@@ -81,17 +45,6 @@ fn put_proof(out: &mut [u8], at: usize, proof: EndpointProof) -> usize
     match proof {
         EndpointProof::Unproved => word_field(out, at, b"-"),
         EndpointProof::At(t) => decimal_field(out, at, t.0),
-    }
-}
-
-fn put_ping(out: &mut [u8], at: usize, ping: PingState) -> usize
-    requires { ⌜ at + length (0x09 ∷ pingText ping) ≤ length (now out) ⌝ }
-    ensures next { λ r. ⌜ r ≡ at + length (0x09 ∷ pingText ping) ⌝ }
-    ensures bytes { λ _. ⌜ now (out .exit) ≡ store (now (out .entry)) at (0x09 ∷ pingText ping) ⌝ }
-{
-    match ping {
-        PingState::Quiet => word_field(out, at, b"quiet"),
-        PingState::Out(t) => decimal_field(out, at, t.0),
     }
 }
 
@@ -132,8 +85,8 @@ fn put_times(
     ensures bytes { λ _. ⌜ now (out .exit) ≡ store (now (out .entry)) at (timesText seen proof ping) ⌝ }
 {
     let next = decimal_field(out, at, seen.0);
-    let next = put_proof(out, next, proof);
-    let next = put_ping(out, next, ping);
+    let next = proof_field(out, next, proof);
+    let next = ping_field(out, next, ping);
     put_end(out, next)
 }
 
@@ -149,7 +102,7 @@ fn put_entry(out: &mut [u8], at: usize, word: &[u8], number: usize, place: usize
     let proof = e.proof;
     let ping = e.ping;
     let next = put_place(out, at, word, number, place);
-    let next = hex_field(out, next, &key[..8]);
+    let next = key_field(out, next, key);
     let next = put_endpoint(out, next, endpoint);
     put_times(out, next, seen, proof, ping)
 }

@@ -4,10 +4,10 @@ use Rattle.answer_line.proofs.put_ping.Statement.{statement}
 use Rattle.answer_line.proofs.put_ping.Tie as tie
 
 returns : tie.Need-returns
-returns c = rw (c .before .before .before .before .before .before .if1 .taken) (c .before .before .put-words .ensures)
+returns c = rw (c .before .before .before .before .before .before .if1 .taken) (c .before .before .put-words-row .ensures)
 
 returns-2 : tie.Need-returns-2
-returns-2 c = rw (c .before .before .before .before .before .if1 .left) (c .before .before .put-word .ensures)
+returns-2 c = rw (c .before .before .before .before .before .if1 .left) (c .before .before .put-word-row .ensures)
 
 pub put-ping-spec : {M : Type 1} → statement M
 put-ping-spec =

@@ -4,10 +4,10 @@ use Rattle.answer_line.proofs.put_pong.Statement.{statement}
 use Rattle.answer_line.proofs.put_pong.Tie as tie
 
 returns : tie.Need-returns
-returns c = rw (c .before .before .before .before .before .enum-told .given .1) (c .before .before .put-word .ensures)
+returns c = rw (c .before .before .before .before .before .enum-told .given .1) (c .before .before .put-word-row .ensures)
 
 returns-2 : tie.Need-returns-2
-returns-2 c = rw (c .before .before .before .before .before .enum-told2 .given .1) (c .before .before .put-word2 .ensures)
+returns-2 c = rw (c .before .before .before .before .before .enum-told2 .given .1) (c .before .before .put-word-row2 .ensures)
 
 returns-3 : tie.Need-returns-3
 returns-3 c = rw (c .before .before .before .before .before .standing .given .1) (c .before .before .put-waiting .ensures)

@@ -18,19 +18,19 @@ returns-3 c = rw (c .before .before .before .before .before .outcome3 .given .1)
 
 returns-4 : tie.Need-returns-4
 unfolding receivedRow
-returns-4 c = rw (c .before .before .before .before .before .enum-told .given .1) (c .before .before .put-word .ensures)
+returns-4 c = rw (c .before .before .before .before .before .enum-told .given .1) (c .before .before .put-word-row .ensures)
 
 returns-5 : tie.Need-returns-5
 unfolding receivedRow
-returns-5 c = rw (c .before .before .before .before .before .enum-told2 .given .1) (c .before .before .put-word2 .ensures)
+returns-5 c = rw (c .before .before .before .before .before .enum-told2 .given .1) (c .before .before .put-word-row2 .ensures)
 
 returns-6 : tie.Need-returns-6
 unfolding receivedRow
-returns-6 c = rw (c .before .before .before .before .before .enum-told3 .given .1) (c .before .before .put-word3 .ensures)
+returns-6 c = rw (c .before .before .before .before .before .enum-told3 .given .1) (c .before .before .put-word-row3 .ensures)
 
 returns-7 : tie.Need-returns-7
 unfolding receivedRow
-returns-7 c = rw (c .before .before .before .before .before .enum-told4 .given .1) (c .before .before .put-word4 .ensures)
+returns-7 c = rw (c .before .before .before .before .before .enum-told4 .given .1) (c .before .before .put-word-row4 .ensures)
 
 pub put-received-spec : {M : Type 1} → statement M
 put-received-spec =

@@ -1,54 +1,71 @@
 -- `answer_line::put_waiting` meets its contract. Assumes nothing.
 use Prim.Native.Nat.{_+_, _≤_}
-use mathlib.Core.List.{List, [], _∷_}
+use mathlib.Core.List.{List}
 use Rattle.octets.specs.Octets.{Bytes}
 use Rattle.packet_parts.proofs.Progress.{room, step}
 use Rattle.text.specs.Decimals.{decimal}
 use Rattle.text.proofs.Decimals.{length-one}
-use lib.ListN.{length, take, length-take}
-use Rattle.text.specs.Hex.{hex}
-use Rattle.text.proofs.Hex.{length-hex}
+use lib.ListN.{length}
 use Rattle.calls.specs.declared.Standing.the-variants.{Waiting}
-use Rattle.answer_line.specs.AnswerLine.{pongFields, pingText}
-use Rattle.answer_line.proofs.Rows.{tabs, total, Writing, begin, end}
+use Rattle.answer_line.specs.AnswerLine.{pongFields}
+use Rattle.rows.proofs.Rows.{pieces, total, Writing, key-bound, ping-bound}
+use Rattle.answer_line.proofs.Lines.{begin-line, end-line, ping-fits}
 use borrow.Author.Needs.{needs}
 use native.Mathlib.Omega.{arith}
 use Rattle.answer_line.proofs.put_waiting.Statement.{statement}
 use Rattle.answer_line.proofs.put_waiting.Tie as tie
 
 abbrev fields : tie.Start → List Bytes
-fields c = pongFields (Waiting (c .args .ping)) (c .args .t2)
+fields c = pongFields (Waiting (c .args .ping)) (c .args .key)
 
-first-digits : (key : Bytes) → length (hex (take 8 key)) ≤ 16
-first-digits key = omega (arith, length-hex (take 8 key), length-take 8 key)
+fits : (c : tie.Start) → length (decimal 0) + total (fields c) + 1 ≤ 64
+fits c =
+    let a = c .args in
+    omega (arith, length-one 0 (omega arith), key-bound (a .key), ping-bound (a .ping) (ping-fits (a .ping) _ (c .good .1 .1 .0)))
 
-fits : (c : tie.Start) → length (pingText (c .args .ping)) ≤ 20 → length (decimal 0) + total (fields c) + 1 ≤ 64
-fits c small = omega (arith, length-one 0 (omega arith), first-digits (c .args .t2))
-
-begun : (c : tie.Start) → length (pingText (c .args .ping)) ≤ 20 → Writing (c .args .out .now) (decimal 0) (fields c) (decimal 0 ∷ tabs (fields c)) (c .args .out .now) 0
-begun c small = begin (c .args .out .now) (decimal 0) (fields c) (c .pre) (fits c small)
+begun : (c : tie.Start) → Writing (c .args .out .now) 0 (decimal 0) (fields c) (pieces (decimal 0) (fields c)) (c .args .out .now) 0
+begun c = begin-line (c .args .out .now) (decimal 0) (fields c) (fits c) (c .pre)
 
 put-decimal-requires : tie.Need-put-decimal-requires
-put-decimal-requires c κs = omega (arith, length-one 0 (omega arith))
+put-decimal-requires c κs = room (begun (c .before .before))
 
-put-field-requires : tie.Need-put-field-requires
-put-field-requires c κs = omega (arith, length-one 0 (omega arith), c .before .before .before .before .put-decimal .ensures .0)
+word-field-requires : tie.Need-word-field-requires
+word-field-requires c κs = room (step (begun (c .before .before .before .before .before .before .before)) (c .before .before .before .before .put-decimal .ensures))
 
-put-hex-field-requires : tie.Need-put-hex-field-requires
-put-hex-field-requires c κs = omega (arith, length-one 0 (omega arith), c .before .before .before .before .before .before .before .before .before .before .put-decimal .ensures .0, c .before .before .before .before .before .put-field .ensures .0, first-digits (c .before .before .before .before .before .before .before .before .before .before .before .before .before .args .t2))
+key-field-requires : tie.Need-key-field-requires
+key-field-requires c κs =
+    let p₀ = begun (c .before .before .before .before .before .before .before .before .before .before .before) in
+    let p₁ = step p₀ (c .before .before .before .before .before .before .before .before .put-decimal .ensures) in
+    let p₂ = step p₁ (c .before .before .before .word-field .ensures) in
+    room p₂
 
-put-ping-field-requires : tie.Need-put-ping-field-requires
-put-ping-field-requires c κs = omega (arith, length-one 0 (omega arith), c .before .before .before .before .before .before .before .before .before .before .before .before .before .before .put-decimal .ensures .0, c .before .before .before .before .before .before .before .before .before .put-field .ensures .0, c .before .before .before .put-hex-field .ensures .0, first-digits (c .before .before .before .before .before .before .before .before .before .before .before .before .before .before .before .before .before .args .t2))
+ping-field-requires : tie.Need-ping-field-requires
+ping-field-requires c κs =
+    let p₀ = begun (c .before .before .before .before .before .before .before .before .before .before .before .before .before .before .before) in
+    let p₁ = step p₀ (c .before .before .before .before .before .before .before .before .before .before .before .before .put-decimal .ensures) in
+    let p₂ = step p₁ (c .before .before .before .before .before .before .before .word-field .ensures) in
+    let p₃ = step p₂ (c .before .before .before .key-field .ensures) in
+    room p₃
 
 put-end-requires : tie.Need-put-end-requires
-put-end-requires c κs = omega (arith, length-one 0 (omega arith), c .before .before .before .before .before .before .before .before .before .before .before .before .before .before .before .before .before .before .put-decimal .ensures .0, c .before .before .before .before .before .before .before .before .before .before .before .before .before .put-field .ensures .0, c .before .before .before .before .before .before .before .put-hex-field .ensures .0, c .before .before .before .put-ping-field .ensures .1 .1, first-digits (c .before .before .before .before .before .before .before .before .before .before .before .before .before .before .before .before .before .before .before .before .before .args .t2))
+put-end-requires c κs =
+    let p₀ = begun (c .before .before .before .before .before .before .before .before .before .before .before .before .before .before .before .before .before .before .before) in
+    let p₁ = step p₀ (c .before .before .before .before .before .before .before .before .before .before .before .before .before .before .before .before .put-decimal .ensures) in
+    let p₂ = step p₁ (c .before .before .before .before .before .before .before .before .before .before .before .word-field .ensures) in
+    let p₃ = step p₂ (c .before .before .before .before .before .before .before .key-field .ensures) in
+    let p₄ = step p₃ (c .before .before .before .ping-field .ensures) in
+    room p₄
 
 returns : tie.Need-returns
 returns c =
-    let last = c .before .before .before .before .before .before .put-ping-field .ensures in
-    let small : length (pingText (c .before .before .before .before .before .before .before .before .before .before .before .before .before .before .before .before .before .before .before .before .before .before .before .before .args .ping)) ≤ 20 = omega (arith, last .0, last .1 .1) in
-    end (decimal 0) (fields (c .before .before .before .before .before .before .before .before .before .before .before .before .before .before .before .before .before .before .before .before .before .before .before .before))
-    (step (step (step (step (step (begun (c .before .before .before .before .before .before .before .before .before .before .before .before .before .before .before .before .before .before .before .before .before .before .before .before) small) (c .before .before .before .before .before .before .before .before .before .before .before .before .before .before .before .before .before .before .before .before .before .put-decimal .ensures)) (c .before .before .before .before .before .before .before .before .before .before .before .before .before .before .before .before .put-field .ensures)) (c .before .before .before .before .before .before .before .before .before .before .put-hex-field .ensures)) (last .0, last .1 .0)) (c .before .before .put-end .ensures)) (fits (c .before .before .before .before .before .before .before .before .before .before .before .before .before .before .before .before .before .before .before .before .before .before .before .before) small)
+    let s = c .before .before .before .before .before .before .before .before .before .before .before .before .before .before .before .before .before .before .before .before .before .before in
+    let p₀ = begun s in
+    let p₁ = step p₀ (c .before .before .before .before .before .before .before .before .before .before .before .before .before .before .before .before .before .before .before .put-decimal .ensures) in
+    let p₂ = step p₁ (c .before .before .before .before .before .before .before .before .before .before .before .before .before .before .word-field .ensures) in
+    let p₃ = step p₂ (c .before .before .before .before .before .before .before .before .before .before .key-field .ensures) in
+    let p₄ = step p₃ (c .before .before .before .before .before .before .ping-field .ensures) in
+    let p₅ = step p₄ (c .before .before .put-end .ensures) in
+    end-line (s .args .out .now) (decimal 0) (fields s) (fits s) p₅
 
 pub put-waiting-spec : {M : Type 1} → statement M
 put-waiting-spec =
@@ -56,12 +73,9 @@ put-waiting-spec =
     (tie.spec
     put-decimal-requires
     (λ c. search needs)
-    put-field-requires
-    (λ c. search needs)
-    (λ c. search needs)
-    (λ c. search needs)
-    put-hex-field-requires
-    put-ping-field-requires
+    word-field-requires
+    key-field-requires
+    ping-field-requires
     put-end-requires
     (λ c. search needs)
     returns)

@@ -8,8 +8,9 @@ use Rattle.octets.specs.Octets.{Bytes}
 use Rattle.bucket_model.specs.Contents.{Contents, entriesAt}
 use Rattle.bucket_model.proofs.ByteForm.{decode-bucket}
 use Rattle.table_model.specs.Layout.{offsetOf, bucketAt}
+use Rattle.rows.specs.Rows.{entryWord, replacementWord}
 use Rattle.packet_parts.proofs.Progress.{Progress, concat, start, room, step, finish}
-use Rattle.printout.specs.Printout.{entryWord, replacementWord, entryRows, bucketRows}
+use Rattle.printout.specs.Printout.{entryRows, bucketRows}
 use borrow.Author.Needs.{needs}
 use Rattle.printout.proofs.put_bucket.Statement.{statement}
 use Rattle.printout.proofs.put_bucket.Tie as tie

@@ -1,30 +1,27 @@
 -- `printout::put_entry` meets its contract. Assumes nothing.
-use mathlib.Core.Path.{_≡_, sym, ap}
+use mathlib.Core.Path.{_≡_, ap}
 use mathlib.Core.List.{List, [], _∷_}
 use native.Mathlib.Omega.{arith}
-use lib.ListN.{length, take}
-use lib.Seq.{length-take-le}
+use lib.ListN.{length}
 use Rattle.octets.specs.Octets.{Bytes}
 use Rattle.text.specs.Decimals.{decimal}
 use Rattle.text.specs.Hex.{hex}
 use Rattle.bucket_model.specs.Rules.{addressOf}
+use Rattle.rows.specs.Rows.{keyText, pingText}
 use Rattle.packet_parts.proofs.Progress.{Progress, concat, start, room, step, finish}
-use Rattle.printout.specs.Printout.{proofText, pingText, entryRow}
+use Rattle.printout.specs.Printout.{proofText, entryRow}
 use Rattle.printout.specs.Parts.{placeText, endpointText, timesText}
 use Rattle.printout.proofs.Rows.{row-parts}
 use borrow.Author.Needs.{needs}
 use Rattle.printout.proofs.put_entry.Statement.{statement}
 use Rattle.printout.proofs.put_entry.Tie as tie
 
-array : (c : tie.Start) → length (c .args .e .key) ≡ 64
-array c = search needs
-
 abbrev pieces : tie.Start → List Bytes
 pieces c =
     let a = c .args in
     let e = a .e in
     placeText (a .word .now) (a .number) (a .place)
-    ∷ (0x09 ∷ hex (take 8 (e .key)))
+    ∷ (0x09 ∷ keyText (e .key))
     ∷ endpointText (e .endpoint)
     ∷ timesText (e .seen) (e .proof) (e .ping)
     ∷ []
@@ -34,7 +31,7 @@ unfolding entryRow
 pieces-are c =
     let a = c .args in
     let e = a .e in
-    row-parts (a .word .now) (decimal (a .number) ∷ decimal (a .place) ∷ []) (hex (take 8 (e .key)))
+    row-parts (a .word .now) (decimal (a .number) ∷ decimal (a .place) ∷ []) (keyText (e .key))
     (hex (addressOf (e .endpoint)) ∷ decimal (e .endpoint .udp) ∷ decimal (e .endpoint .tcp) ∷ [])
     (decimal (e .seen .0) ∷ proofText (e .proof) ∷ pingText (e .ping) ∷ [])
 
@@ -44,47 +41,41 @@ begun c = start (c .args .out .now) (c .args .at) (pieces c) (omega (arith, c .p
 put-place-requires : tie.Need-put-place-requires
 put-place-requires c κs = room (begun (c .before .before .before .before .before .before))
 
-array-share-prefix-key : tie.Need-array-share-prefix-key
-array-share-prefix-key c = omega (arith, array (c .before .before .before .before .before .before .before .before .before .before))
-
-slice-aggregate-hex-field : tie.Need-slice-aggregate-hex-field
-slice-aggregate-hex-field c = sym (length-take-le 8 (c .before .before .before .before .before .before .before .before .before .before .before .args .e .key) (omega (arith, array (c .before .before .before .before .before .before .before .before .before .before .before))))
-
-hex-field-requires : tie.Need-hex-field-requires
-hex-field-requires c κs = room (step (begun (c .before .before .before .before .before .before .before .before .before .before .before)) (c .before .before .before .before .put-place .ensures))
+key-field-requires : tie.Need-key-field-requires
+key-field-requires c κs = room (step (begun (c .before .before .before .before .before .before .before .before .before .before)) (c .before .before .before .put-place .ensures))
 
 put-endpoint-requires : tie.Need-put-endpoint-requires
 put-endpoint-requires c κs =
-    let p₀ = begun (c .before .before .before .before .before .before .before .before .before .before .before .before .before .before .before) in
-    let p₁ = step p₀ (c .before .before .before .before .before .before .before .before .put-place .ensures) in
-    let p₂ = step p₁ (c .before .before .before .hex-field .ensures) in
-    (c .before .before .before .before .before .before .before .before .before .before .before .before .before .before .before .pre .0, room p₂)
+    let s = c .before .before .before .before .before .before .before .before .before .before .before .before .before .before in
+    let p₀ = begun s in
+    let p₁ = step p₀ (c .before .before .before .before .before .before .before .put-place .ensures) in
+    let p₂ = step p₁ (c .before .before .before .key-field .ensures) in
+    (s .pre .0, room p₂)
 
 put-times-requires : tie.Need-put-times-requires
 put-times-requires c κs =
-    let p₀ = begun (c .before .before .before .before .before .before .before .before .before .before .before .before .before .before .before .before .before .before .before) in
-    let p₁ = step p₀ (c .before .before .before .before .before .before .before .before .before .before .before .before .put-place .ensures) in
-    let p₂ = step p₁ (c .before .before .before .before .before .before .before .hex-field .ensures) in
+    let p₀ = begun (c .before .before .before .before .before .before .before .before .before .before .before .before .before .before .before .before .before .before) in
+    let p₁ = step p₀ (c .before .before .before .before .before .before .before .before .before .before .before .put-place .ensures) in
+    let p₂ = step p₁ (c .before .before .before .before .before .before .before .key-field .ensures) in
     let p₃ = step p₂ (c .before .before .before .put-endpoint .ensures) in
     room p₃
 
 returns : tie.Need-returns
 returns c =
-    let p₀ = begun (c .before .before .before .before .before .before .before .before .before .before .before .before .before .before .before .before .before .before .before .before .before .before) in
-    let p₁ = step p₀ (c .before .before .before .before .before .before .before .before .before .before .before .before .before .before .before .put-place .ensures) in
-    let p₂ = step p₁ (c .before .before .before .before .before .before .before .before .before .before .hex-field .ensures) in
+    let s = c .before .before .before .before .before .before .before .before .before .before .before .before .before .before .before .before .before .before .before .before .before in
+    let p₀ = begun s in
+    let p₁ = step p₀ (c .before .before .before .before .before .before .before .before .before .before .before .before .before .before .put-place .ensures) in
+    let p₂ = step p₁ (c .before .before .before .before .before .before .before .before .before .before .key-field .ensures) in
     let p₃ = step p₂ (c .before .before .before .before .before .before .put-endpoint .ensures) in
     let p₄ = step p₃ (c .before .before .put-times .ensures) in
-    finish p₄ (pieces-are (c .before .before .before .before .before .before .before .before .before .before .before .before .before .before .before .before .before .before .before .before .before .before))
+    finish p₄ (pieces-are s)
 
 pub put-entry-spec : {M : Type 1} → statement M
 put-entry-spec =
     tie.close
     (tie.spec
     put-place-requires
-    array-share-prefix-key
-    slice-aggregate-hex-field
-    hex-field-requires
+    key-field-requires
     put-endpoint-requires
     put-times-requires
     (λ c. search needs)

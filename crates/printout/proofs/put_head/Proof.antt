@@ -6,8 +6,9 @@ use lib.ListN.{length}
 use Rattle.octets.specs.Octets.{Bytes}
 use Rattle.text.specs.Decimals.{decimal}
 use Rattle.packet_parts.proofs.Progress.{Progress, concat, start, room, step, finish}
+use Rattle.rows.proofs.Rows.{pieces}
 use Rattle.printout.specs.declared.Totals.{Totals}
-use Rattle.printout.specs.Printout.{tableWord, rowEnd, tableRow}
+use Rattle.printout.specs.Printout.{tableWord, tableRow}
 use Rattle.printout.proofs.Rows.{head-parts}
 use Rattle.printout.proofs.Slots.{header-in}
 use borrow.Author.Needs.{needs}
@@ -20,23 +21,24 @@ bucket-count-requires c κs = header-in (c .before .before .args .table .now) (c
 clock-requires : tie.Need-clock-requires
 clock-requires c κs = header-in (c .before .before .before .args .table .now) (c .before .before .before .pre .0)
 
-abbrev pieces : tie.After-held-in → List Bytes
-pieces c =
-    tableWord
-    ∷ (0x09 ∷ decimal (c .before .before .bucket-count .result))
-    ∷ (0x09 ∷ decimal (c .before .clock .result .0))
-    ∷ (0x09 ∷ decimal (c .held-in .result .entries))
-    ∷ (0x09 ∷ decimal (c .held-in .result .replacements))
-    ∷ rowEnd
+abbrev fields : tie.After-held-in → List Bytes
+fields c =
+    decimal (c .before .before .bucket-count .result)
+    ∷ decimal (c .before .clock .result .0)
+    ∷ decimal (c .held-in .result .entries)
+    ∷ decimal (c .held-in .result .replacements)
     ∷ []
 
-pieces-are : (c : tie.After-held-in) → concat (pieces c) ≡ tableRow (c .before .before .before .before .before .args .table .now)
-pieces-are c =
+abbrev parts : tie.After-held-in → List Bytes
+parts c = pieces tableWord (fields c)
+
+parts-are : (c : tie.After-held-in) → concat (parts c) ≡ tableRow (c .before .before .before .before .before .args .table .now)
+parts-are c =
     let t = c .held-in .ensures in
     head-parts (c .before .before .before .before .before .args .table .now) (c .before .before .bucket-count .ensures) (c .before .clock .ensures) (ap (λ (x : Totals). x .entries) t) (ap (λ (x : Totals). x .replacements) t)
 
-begun : (c : tie.After-held-in) → Progress (c .before .before .before .before .before .args .out .now) 0 (pieces c) (pieces c) (c .before .before .before .before .before .args .out .now) 0
-begun c = start (c .before .before .before .before .before .args .out .now) 0 (pieces c) (omega (arith, c .before .before .before .before .before .pre .1, ap length (pieces-are c)))
+begun : (c : tie.After-held-in) → Progress (c .before .before .before .before .before .args .out .now) 0 (parts c) (parts c) (c .before .before .before .before .before .args .out .now) 0
+begun c = start (c .before .before .before .before .before .args .out .now) 0 (parts c) (omega (arith, c .before .before .before .before .before .pre .1, ap length (parts-are c)))
 
 put-word-requires : tie.Need-put-word-requires
 put-word-requires c κs = room (begun (c .before .before))
@@ -87,7 +89,7 @@ returns c =
     let p₄ = step p₃ (c .before .before .before .before .before .before .before .before .before .before .decimal-field3 .ensures) in
     let p₅ = step p₄ (c .before .before .before .before .before .before .decimal-field4 .ensures) in
     let p₆ = step p₅ (c .before .before .put-end .ensures) in
-    finish p₆ (pieces-are (c .before .before .before .before .before .before .before .before .before .before .before .before .before .before .before .before .before .before .before .before .before .before .before .before .before))
+    finish p₆ (parts-are (c .before .before .before .before .before .before .before .before .before .before .before .before .before .before .before .before .before .before .before .before .before .before .before .before .before))
 
 pub put-head-spec : {M : Type 1} → statement M
 put-head-spec =

@@ -1,4 +1,4 @@
--- `printout::hex_field` meets its contract. Assumes nothing.
+-- `rows::hex_field` meets its contract. Assumes nothing.
 use mathlib.Core.Path.{refl, _∙_}
 use native.Mathlib.Omega.{arith}
 use lib.ListN.{length-set}
@@ -6,8 +6,8 @@ use Rattle.text.specs.Hex.{hex}
 use Rattle.text.proofs.Hex.{length-hex}
 use Rattle.rlp.proofs.Writing.{wrote-cons}
 use borrow.Author.Needs.{needs}
-use Rattle.printout.proofs.hex_field.Statement.{statement}
-use Rattle.printout.proofs.hex_field.Tie as tie
+use Rattle.rows.proofs.hex_field.Statement.{statement}
+use Rattle.rows.proofs.hex_field.Tie as tie
 
 put-hex-requires : tie.Need-put-hex-requires
 put-hex-requires c κs = simp length-set (omega (arith, c .before .before .before .pre, length-hex (c .before .before .before .args .bytes .now)))

@@ -1,12 +1,12 @@
--- `printout::decimal_field` meets its contract. Assumes nothing.
+-- `rows::decimal_field` meets its contract. Assumes nothing.
 use mathlib.Core.Path.{refl, _∙_}
 use native.Mathlib.Omega.{arith}
 use lib.ListN.{length-set}
 use Rattle.text.specs.Decimals.{decimal}
 use Rattle.rlp.proofs.Writing.{wrote-cons}
 use borrow.Author.Needs.{needs}
-use Rattle.printout.proofs.decimal_field.Statement.{statement}
-use Rattle.printout.proofs.decimal_field.Tie as tie
+use Rattle.rows.proofs.decimal_field.Statement.{statement}
+use Rattle.rows.proofs.decimal_field.Tie as tie
 
 put-decimal-requires : tie.Need-put-decimal-requires
 put-decimal-requires c κs = simp length-set (omega arith)

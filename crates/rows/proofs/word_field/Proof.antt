@@ -1,11 +1,11 @@
--- `printout::word_field` meets its contract. Assumes nothing.
+-- `rows::word_field` meets its contract. Assumes nothing.
 use mathlib.Core.Path.{refl, _∙_}
 use native.Mathlib.Omega.{arith}
 use lib.ListN.{length-set}
 use Rattle.rlp.proofs.Writing.{wrote-cons}
 use borrow.Author.Needs.{needs}
-use Rattle.printout.proofs.word_field.Statement.{statement}
-use Rattle.printout.proofs.word_field.Tie as tie
+use Rattle.rows.proofs.word_field.Statement.{statement}
+use Rattle.rows.proofs.word_field.Tie as tie
 
 put-word-requires : tie.Need-put-word-requires
 put-word-requires c κs = simp length-set (omega arith)

@@ -1,9 +1,9 @@
--- `printout::put_proof` meets its contract, by the cases of what it writes. Assumes nothing.
+-- `printout::proof_field` meets its contract, by the cases of what it writes. Assumes nothing.
 use Rattle.printout.specs.Printout.{proofText}
-use Rattle.printout.proofs.Rows.{field-fits, field-wrote}
+use Rattle.rows.proofs.Rows.{field-fits, field-wrote}
 use borrow.Author.Needs.{needs}
-use Rattle.printout.proofs.put_proof.Statement.{statement}
-use Rattle.printout.proofs.put_proof.Tie as tie
+use Rattle.printout.proofs.proof_field.Statement.{statement}
+use Rattle.printout.proofs.proof_field.Tie as tie
 
 word-field-requires : tie.Need-word-field-requires
 word-field-requires c κs = field-fits proofText (c .before .before .enum-told .given .1) (c .before .before .before .before .before .args .at) (c .before .before .before .before .before .pre)
@@ -17,8 +17,8 @@ returns c = let a = c .before .before .before .before .before .before .before .b
 returns-2 : tie.Need-returns-2
 returns-2 c = let a = c .before .before .before .before .before .before .before .before .args in field-wrote proofText (c .before .before .before .before .before .proof .given .1) (a .out .now) (a .at) (c .before .before .decimal-field .ensures)
 
-pub put-proof-spec : {M : Type 1} → statement M
-put-proof-spec =
+pub proof-field-spec : {M : Type 1} → statement M
+proof-field-spec =
     tie.close
     (tie.spec
     (λ c. search needs)

@@ -1,9 +1,9 @@
--- `printout::put_ping` meets its contract, by the cases of what it writes. Assumes nothing.
-use Rattle.printout.specs.Printout.{pingText}
-use Rattle.printout.proofs.Rows.{field-fits, field-wrote}
+-- `rows::ping_field` meets its contract, by the cases of what it writes. Assumes nothing.
+use Rattle.rows.specs.Rows.{pingText}
+use Rattle.rows.proofs.Rows.{field-fits, field-wrote}
 use borrow.Author.Needs.{needs}
-use Rattle.printout.proofs.put_ping.Statement.{statement}
-use Rattle.printout.proofs.put_ping.Tie as tie
+use Rattle.rows.proofs.ping_field.Statement.{statement}
+use Rattle.rows.proofs.ping_field.Tie as tie
 
 word-field-requires : tie.Need-word-field-requires
 word-field-requires c κs = field-fits pingText (c .before .before .enum-told .given .1) (c .before .before .before .before .before .args .at) (c .before .before .before .before .before .pre)
@@ -17,8 +17,8 @@ returns c = let a = c .before .before .before .before .before .before .before .b
 returns-2 : tie.Need-returns-2
 returns-2 c = let a = c .before .before .before .before .before .before .before .before .args in field-wrote pingText (c .before .before .before .before .before .ping .given .1) (a .out .now) (a .at) (c .before .before .decimal-field .ensures)
 
-pub put-ping-spec : {M : Type 1} → statement M
-put-ping-spec =
+pub ping-field-spec : {M : Type 1} → statement M
+ping-field-spec =
     tie.close
     (tie.spec
     (λ c. search needs)
