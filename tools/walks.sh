@@ -1,14 +1,30 @@
 #!/bin/sh
-# Writes the proofs by hand of the crate discv4's counted calls and of their by-value forms.
+# Writes the proofs by hand of the counted calls: of the crate counted_calls, of their by-value forms, and of their forms for C in the crate capi.
 cd "$(dirname "$0")/.." || exit 1
 
-# both NAME MODEL ANSWER KIND..: as public_call.py has them
+# written MODE FOLDER NAME MODEL ANSWER KIND..: as public_call.py has them
+written() {
+    mode=$1 folder=$2
+    shift 2
+    mkdir -p "crates/$folder" || exit 1
+    python3 tools/public_call.py "$mode" "$@" > "crates/$folder/Proof.antt" || exit 1
+}
+
+# both NAME MODEL ANSWER KIND..
 both() {
-    mkdir -p "crates/discv4/proofs/$1" "crates/discv4/proofs/$1_with" || exit 1
-    python3 tools/public_call.py call "$@" > "crates/discv4/proofs/$1/Proof.antt" || exit 1
-    python3 tools/public_call.py by-value "$@" > "crates/discv4/proofs/$1_with/Proof.antt" || exit 1
+    written call "counted_calls/proofs/$1" "$@"
+    written by-value "counted_calls/proofs/$1_with" "$@"
 }
 
 both datagram datagram received entry::MonotonicMillis entry::UnixSeconds slice u16 slice slice
 both ping_sent pingSent number entry::MonotonicMillis slice slice u16 u16 slice
 both sweep sweep number entry::MonotonicMillis
+
+# for_c NAME MODEL ANSWER KIND..
+for_c() {
+    written c-call "capi/proofs/coghammer_$1" "$@"
+}
+
+for_c datagram datagram code u64 u64 slice u16 slice slice
+for_c ping_sent pingSent number u64 slice slice u16 u16 slice
+for_c sweep sweep number u64

@@ -82,7 +82,7 @@ pub fn number(received: Received) -> u8
 }
 
 // A node of zeros.
-fn no_node() -> Node
+pub fn no_node() -> Node
     ensures { λ r. ⌜ r ≡ spec.noNode ⌝ }
 {
     let endpoint = Endpoint {
@@ -416,7 +416,7 @@ pub enum Reach {
     At(Touched),
 }
 
-fn reached_by(table: &[u8], key: &[u8]) -> Reach
+pub fn reached_by(table: &[u8], key: &[u8]) -> Reach
     ensures { λ r. ⌜ r ≡ reached (now (table .entry)) (now (key .entry)) ⌝ }
 {
     if !table::header_sound(table) {

@@ -1,3 +1,1 @@
-pub mod Written
-pub mod Chosen
 pub mod Demand3

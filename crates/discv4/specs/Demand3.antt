@@ -20,7 +20,7 @@ use Rattle.counters.specs.declared.Counters.{Counters}
 use Rattle.counters.specs.Counters.{raised, cleared}
 use Rattle.counters.specs.History.{timesOf, capped}
 use Rattle.discv4.specs.Numbers.{countOf}
-use Rattle.discv4.specs.Closest.{listed}
+use Rattle.closest_call.specs.Closest.{listed}
 
 -- the answer number of each call on a table's bytes
 abbrev pub answerNumber : Bytes → Call → ℕ

@@ -1,3 +1,2 @@
 pub mod Numbers
-pub mod Closest
 pub mod Demand3

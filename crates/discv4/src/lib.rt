@@ -1,24 +1,30 @@
 // The public library: the table's calls, the writers of packets, and the readers of an accepted datagram's fields.
 ghost use mathlib.Core.Path.{_≡_};
 ghost use mathlib.Core.Bool.{true};
-ghost use Prim.Native.Nat.{_<_, _≤_};
 ghost use lib.ListN.{length};
 ghost use Rattle.keccak.specs.Sponge as sponge;
-ghost use Rattle.history.specs.Model as model;
-ghost use Rattle.calls_model.specs.Calls.{answerOn, bytesAfter};
-ghost use Rattle.calls_model.specs.Reading.{reading};
-ghost use Rattle.calls.specs.Answer.{received, numberOf};
 ghost use Rattle.packets.specs.Spans as spans;
 ghost use Rattle.wire.specs.Datagram.{hashOf, signatureOf, recordOf};
 ghost use Rattle.packet_parts.specs.Parts.{written, writtenIn, writableNodes};
 ghost use Rattle.packet_writer.specs.Writers.{canPing, pingBody, canPong, pongBody, canFindNode, findNodeBody, neighborsBody, enrRequestBody, canEnrResponse, enrResponseBody};
 ghost use Rattle.packet_join.specs.Join as joining;
 ghost use Rattle.table.specs.Init.{initAnswer, initTable};
-ghost use Rattle.counters.specs.Counters.{raised};
 ghost use Rattle.counters.specs.Counters as counts;
-ghost use Rattle.discv4.specs.Closest.{listed, listAfter, found, numberAndCount, chosenNode, withChosen};
 ghost use Rattle.discv4.specs.Numbers.{writtenNumber, writtenSize, countOf};
-use calls::Choice;
+// the table's calls, proved by hand in crates of their own: datagram, ping_sent and sweep count their answers, closest fills a lent list; the
+// forms with `_with` take counters or list by value
+pub use closest_call::Found;
+pub use closest_call::Listed;
+pub use closest_call::closest;
+pub use closest_call::closest_with;
+pub use counted_calls::Counted;
+pub use counted_calls::CountedNumber;
+pub use counted_calls::datagram;
+pub use counted_calls::datagram_with;
+pub use counted_calls::ping_sent;
+pub use counted_calls::ping_sent_with;
+pub use counted_calls::sweep;
+pub use counted_calls::sweep_with;
 // the types of the public functions
 pub use calls::Outcome;
 pub use calls::Received;
@@ -51,212 +57,6 @@ pub fn init(table: &mut [u8], key: &[u8], buckets: usize) -> u8
     ensures table { λ _. ⌜ now (table .exit) ≡ initTable (now (table .entry)) (now (key .entry)) buckets ⌝ }
 {
     table::init(table, key, buckets)
-}
-
-// ---- the counted calls: each works on the lent table, counts its answer number in the lent counters, and answers; tools/walks.sh prints
-// their proofs
-
-// A datagram came from the sender's address and UDP port, signed with this key; the key is empty where the signature recovers none.
-pub fn datagram(
-    counters: &mut Counters,
-    table: &mut [u8],
-    clock: MonotonicMillis,
-    unix: UnixSeconds,
-    address: &[u8],
-    port: u16,
-    signer: &[u8],
-    datagram: &[u8],
-) -> Received
-    ensures { λ r. ⌜ r ≡ received (now (table .entry)) (clock .0) (unix .0) (now (address .entry)) port (now (signer .entry)) (now (datagram .entry)) ⌝ }
-    ensures { λ r. ⌜ now (table .exit) ≡ bytesAfter reading (now (table .entry)) (model.datagram (clock .0) (unix .0) (now (address .entry)) port (now (signer .entry)) (now (datagram .entry))) ⌝ }
-    ensures { λ r. ⌜ now (counters .exit) ≡ raised (now (counters .entry)) (numberOf r) ⌝ }
-{
-    let answer = calls::datagram_on(table, clock, unix, address, port, signer, datagram);
-    counters::count(counters, calls::number(answer));
-    answer
-}
-
-// A ping with this hash went out to a node. The answer number.
-pub fn ping_sent(
-    counters: &mut Counters,
-    table: &mut [u8],
-    clock: MonotonicMillis,
-    key: &[u8],
-    address: &[u8],
-    udp: u16,
-    tcp: u16,
-    hash: &[u8],
-) -> u8
-    ensures { λ r. ⌜ r ≡ answerOn reading (now (table .entry)) (model.pingSent (clock .0) (now (key .entry)) (now (address .entry)) udp tcp (now (hash .entry))) ⌝ }
-    ensures { λ r. ⌜ now (table .exit) ≡ bytesAfter reading (now (table .entry)) (model.pingSent (clock .0) (now (key .entry)) (now (address .entry)) udp tcp (now (hash .entry))) ⌝ }
-    ensures { λ r. ⌜ now (counters .exit) ≡ raised (now (counters .entry)) r ⌝ }
-{
-    let answer = calls::ping_sent_on(table, clock, key, address, udp, tcp, hash);
-    counters::count(counters, answer);
-    answer
-}
-
-// Nodes that did not answer in time go, then replacements with an expired proof, and proved replacements take free entries. The answer
-// number.
-pub fn sweep(counters: &mut Counters, table: &mut [u8], clock: MonotonicMillis) -> u8
-    ensures { λ r. ⌜ r ≡ answerOn reading (now (table .entry)) (model.sweep (clock .0)) ⌝ }
-    ensures { λ r. ⌜ now (table .exit) ≡ bytesAfter reading (now (table .entry)) (model.sweep (clock .0)) ⌝ }
-    ensures { λ r. ⌜ now (counters .exit) ≡ raised (now (counters .entry)) r ⌝ }
-{
-    let answer = calls::sweep_on(table, clock);
-    counters::count(counters, answer);
-    answer
-}
-
-// The same calls with the counters by value, for callers inside the repository: a function that calls these needs no proof by hand.
-
-// The answer to a datagram, and the counters after it.
-pub struct Counted {
-    pub received: Received,
-    pub counters: Counters,
-}
-
-pub fn datagram_with(
-    counters: Counters,
-    table: &mut [u8],
-    clock: MonotonicMillis,
-    unix: UnixSeconds,
-    address: &[u8],
-    port: u16,
-    signer: &[u8],
-    datagram: &[u8],
-) -> Counted
-    ensures { λ r. ⌜ r .received ≡ received (now (table .entry)) (clock .0) (unix .0) (now (address .entry)) port (now (signer .entry)) (now (datagram .entry)) ⌝ }
-    ensures { λ r. ⌜ now (table .exit) ≡ bytesAfter reading (now (table .entry)) (model.datagram (clock .0) (unix .0) (now (address .entry)) port (now (signer .entry)) (now (datagram .entry))) ⌝ }
-    ensures { λ r. ⌜ r .counters ≡ raised counters (numberOf (r .received)) ⌝ }
-{
-    let mut counted = counters;
-    let received = self::datagram(
-        &mut counted,
-        table,
-        clock,
-        unix,
-        address,
-        port,
-        signer,
-        datagram,
-    );
-    Counted {
-        received,
-        counters: counted,
-    }
-}
-
-// The answer number of a call, and the counters after it.
-pub struct CountedNumber {
-    pub number: u8,
-    pub counters: Counters,
-}
-
-pub fn ping_sent_with(
-    counters: Counters,
-    table: &mut [u8],
-    clock: MonotonicMillis,
-    key: &[u8],
-    address: &[u8],
-    udp: u16,
-    tcp: u16,
-    hash: &[u8],
-) -> CountedNumber
-    ensures { λ r. ⌜ r .number ≡ answerOn reading (now (table .entry)) (model.pingSent (clock .0) (now (key .entry)) (now (address .entry)) udp tcp (now (hash .entry))) ⌝ }
-    ensures { λ r. ⌜ now (table .exit) ≡ bytesAfter reading (now (table .entry)) (model.pingSent (clock .0) (now (key .entry)) (now (address .entry)) udp tcp (now (hash .entry))) ⌝ }
-    ensures { λ r. ⌜ r .counters ≡ raised counters (r .number) ⌝ }
-{
-    let mut counted = counters;
-    let number = ping_sent(&mut counted, table, clock, key, address, udp, tcp, hash);
-    CountedNumber {
-        number,
-        counters: counted,
-    }
-}
-
-pub fn sweep_with(counters: Counters, table: &mut [u8], clock: MonotonicMillis) -> CountedNumber
-    ensures { λ r. ⌜ r .number ≡ answerOn reading (now (table .entry)) (model.sweep (clock .0)) ⌝ }
-    ensures { λ r. ⌜ now (table .exit) ≡ bytesAfter reading (now (table .entry)) (model.sweep (clock .0)) ⌝ }
-    ensures { λ r. ⌜ r .counters ≡ raised counters (r .number) ⌝ }
-{
-    let mut counted = counters;
-    let number = sweep(&mut counted, table, clock);
-    CountedNumber {
-        number,
-        counters: counted,
-    }
-}
-
-// ---- the closest call
-
-// The answer number of a closest call, and how many nodes the list received: none where the call is refused.
-pub struct Listed {
-    pub number: u8,
-    pub count: usize,
-}
-
-// The node of the i-th entry that was chosen.
-fn chosen_node(table: &[u8], choice: Choice, i: usize) -> Node
-    requires { ⌜ i < 16 ⌝ }
-    ensures { λ r. ⌜ r ≡ chosenNode (now (table .entry)) choice i ⌝ }
-{
-    let nearest = choice.nearest;
-    let near = nearest.list[i];
-    calls::node_in(table, near.slot, near.index)
-}
-
-// What a closest call answers.
-fn number_and_count(choice: Choice) -> Listed
-    ensures { λ r. ⌜ r ≡ numberAndCount choice ⌝ }
-{
-    Listed {
-        number: choice.number,
-        count: choice.nearest.count,
-    }
-}
-
-// Writes the nodes that were chosen to the front of the list, and leaves the rest of it.
-fn store_nodes(list: &mut [Node], table: &[u8], choice: Choice)
-    requires { ⌜ (choice .nearest .count ≤ 16) × (choice .nearest .count ≤ length (now list)) ⌝ }
-    ensures { λ _. ⌜ now (list .exit) ≡ withChosen (now (table .entry)) choice (now (list .entry)) ⌝ }
-{
-    let mut i = 0;
-    while i < choice.nearest.count {
-        list[i] = chosen_node(table, choice, i);
-        i += 1;
-    }
-}
-
-// Writes the nodes nearest to the target, nearest first, to the front of the list that the caller lends. A list of fewer than sixteen
-// records is refused.
-pub fn closest(list: &mut [Node], table: &[u8], target: &[u8]) -> Listed
-    ensures { λ r. ⌜ (r ≡ listed (now (table .entry)) (now (target .entry)) (length (now (list .entry))))
-        × (now (list .exit) ≡ listAfter (now (table .entry)) (now (target .entry)) (now (list .entry))) ⌝ }
-{
-    let choice = calls::closest_on(table, target, list.len());
-    store_nodes(list, table, choice);
-    number_and_count(choice)
-}
-
-// What a closest call answers, and the list after it.
-pub struct Found {
-    pub number: u8,
-    pub count: usize,
-    pub nodes: [Node; 16],
-}
-
-// A closest call with the list by value.
-pub fn closest_with(list: [Node; 16], table: &[u8], target: &[u8]) -> Found
-    ensures { λ r. ⌜ r ≡ found (now (table .entry)) (now (target .entry)) list ⌝ }
-{
-    let mut nodes = list;
-    let answer = closest(&mut nodes, table, target);
-    Found {
-        number: answer.number,
-        count: answer.count,
-        nodes,
-    }
 }
 
 // ---- counters

@@ -1,0 +1,29 @@
+-- `capi::coghammer_write_pong` meets its contract. Assumes nothing.
+use mathlib.Core.Path.{refl, ap, _∙_}
+use native.Mathlib.Omega.{arith}
+use Rattle.packet_writer.specs.Writers.{canPong, pongBody}
+use Rattle.packet_laws.specs.Bodies.{pong}
+use Rattle.capi.proofs.Sizes.{body-fits, seq-fits}
+use Rattle.capi.specs.Codes.{writtenCode}
+use borrow.Author.Needs.{needs}
+use Rattle.capi.proofs.coghammer_write_pong.Statement.{statement}
+use Rattle.capi.proofs.coghammer_write_pong.Tie as tie
+
+written-code-requires : tie.Need-written-code-requires
+written-code-requires c κs =
+    let a = c .before .before .before .before .before .before .before .before .args in
+    let seq = c .before .before .before .before .enr-seq-of in
+    body-fits (canPong (a .to .now) (a .ping-hash .now)) (pongBody (a .to .now) (a .to-udp) (a .ping-hash .now) (a .expiration) (seq .result)) (a .buf .now) (c .before .before .write-pong .ensures .0)
+    (λ ok. pong (a .to .now) (a .to-udp) (a .ping-hash .now) (a .expiration) (seq .result) ok (omega arith) (omega arith)
+    (seq-fits (a .has-enr-seq) (a .enr-seq) (omega arith) (seq .ensures)))
+
+returns : tie.Need-returns
+returns c =
+    let seq = c .before .before .before .before .before .enr-seq-of .ensures in
+    let w = c .before .before .before .write-pong .ensures in
+    (c .written-code .ensures ∙ ap writtenCode (w .0) ∙ rw seq refl, w .1 ∙ rw seq refl)
+
+pub coghammer-write-pong-spec : {M : Type 1} → statement M
+coghammer-write-pong-spec =
+    tie.close
+    (tie.spec (λ c κs. search needs) (λ c κs. search needs) written-code-requires (λ c. search needs) returns)

@@ -1,0 +1,78 @@
+-- The closest call (document 01, "Closest"): what it answers, and what the lent list holds after it.
+use Prim.Native.Nat.{ℕ}
+use mathlib.Core.Bool.{cond}
+use mathlib.Core.List.{List, [], _++_, map, flatMap}
+use lib.Dec.{eqb}
+use lib.ListN.{length, getD, take, drop}
+use Rattle.octets.specs.Octets.{Bytes}
+use Rattle.keccak.specs.Sponge.{keccak256}
+use Rattle.distance.specs.Distance.{distance}
+use Rattle.entry.specs.declared.Node.{Node}
+use Rattle.entry.specs.declared.Entry.{Entry}
+use Rattle.table_model.specs.Layout.{bucketsOf}
+use Rattle.nearest.specs.declared.Near.{Near}
+use Rattle.nearest.specs.Sort.{sortBy}
+use Rattle.history.specs.Model.{closest}
+use Rattle.calls_model.specs.Reading.{reading}
+use Rattle.calls_model.specs.Calls.{answerOn}
+use Rattle.calls.specs.declared.Choice.{Choice}
+use Rattle.calls.specs.Answer.{nodeOf}
+use Rattle.calls.specs.Closest.{nodeIn}
+use Rattle.closest_call.specs.declared.Listed.{Listed}
+use Rattle.closest_call.specs.declared.Found.{Found}
+
+-- the entries (document 01's seats) of all buckets: in rising bucket number, in each from the head
+abbrev pub entriesOf : Bytes → List Entry
+entriesOf s = flatMap (λ b. b .entries) (bucketsOf s)
+
+-- "Distance is the XOR of the two keys' Keccak-256 hashes, as a big-endian number"
+abbrev pub distanceTo : Bytes → Entry → ℕ
+distanceTo target e = distance (keccak256 target) (keccak256 (e .key))
+
+-- "the min(16, seated) seated nodes nearest to the target, nearest first; equal distances by seat, head first": the sort keeps the order
+-- of entries at one distance
+unfoldable pub closestNodes : Bytes → Bytes → List Node
+closestNodes s target = map nodeOf (take 16 (sortBy (distanceTo target) (entriesOf s)))
+
+-- the answer number, for a list of `room` records: 1, 5, 19, or 0
+abbrev pub closestNumber : Bytes → Bytes → ℕ → ℕ
+closestNumber s target room = answerOn reading s (closest target room)
+
+-- the nodes that the list receives: none where the call is refused
+unfoldable pub nodesFor : Bytes → Bytes → ℕ → List Node
+nodesFor s target room = cond (eqb (closestNumber s target room) 0) (closestNodes s target) []
+
+-- what the call answers: its number, and how many nodes the list received
+abbrev pub listed : Bytes → Bytes → ℕ → Listed
+listed s target room = record { number = closestNumber s target room; count = length (nodesFor s target room) }
+
+-- nodes at the front of a list: "Records after the count are untouched"
+abbrev pub withFront : List Node → List Node → List Node
+withFront nodes list = nodes ++ drop (length nodes) list
+
+-- the list after the call
+abbrev pub listAfter : Bytes → Bytes → List Node → List Node
+listAfter s target list = withFront (nodesFor s target (length list)) list
+
+-- the answer and the list after it, of a list of sixteen records by value
+abbrev pub found : Bytes → Bytes → List Node → Found
+found s target list =
+    record { number = closestNumber s target 16; count = length (nodesFor s target 16); nodes = listAfter s target list }
+
+-- ---- the steps of the call: what `choice` tells, and its nodes
+
+abbrev pub numberAndCount : Choice → Listed
+numberAndCount choice = record { number = choice .number; count = choice .nearest .count }
+
+abbrev pub nodeAt : Bytes → Near → Node
+nodeAt s n = nodeIn s (n .slot) (n .index)
+
+-- what a read past the end of the chosen entries gives
+abbrev pub nowhere : Near
+nowhere = record { slot = 0; index = 0; hash = [] }
+
+abbrev pub chosenNode : Bytes → Choice → ℕ → Node
+chosenNode s choice i = nodeAt s (getD (choice .nearest .list) i nowhere)
+
+abbrev pub withChosen : Bytes → Choice → List Node → List Node
+withChosen s choice list = map (nodeAt s) (take (choice .nearest .count) (choice .nearest .list)) ++ drop (choice .nearest .count) list

@@ -1,0 +1,223 @@
+#include "node.h"
+#include <arpa/inet.h>
+#include <stdlib.h>
+#include <string.h>
+#include <sys/socket.h>
+#include <time.h>
+#include <unistd.h>
+
+enum { LARGEST = 1280, BODY_ROOM = LARGEST - 97, PACKED = COGHAMMER_PACKED_NODE, FULL_PACKET = 12, CLOSEST = 16, ASKED = 3 };
+
+// ---- the two clocks, and neither is ever taken for the other
+
+uint64_t clock_millis(void) {
+    static uint64_t first;
+    struct timespec t;
+    clock_gettime(CLOCK_MONOTONIC, &t);
+    uint64_t millis = (uint64_t)t.tv_sec * 1000 + (uint64_t)t.tv_nsec / 1000000;
+    if (!first) first = millis;
+    return millis - first;
+}
+
+static uint64_t unix_seconds(void) { return (uint64_t)time(NULL); }
+
+static uint64_t expiration(void) { return unix_seconds() + 20; }
+
+// ---- sockets
+
+static void fail(const char *what) {
+    perror(what);
+    exit(1);
+}
+
+static struct sockaddr_in address_of(const coghammer_endpoint *e) {
+    struct sockaddr_in a = {.sin_family = AF_INET, .sin_port = htons(e->udp)};
+    memcpy(&a.sin_addr, e->address, 4);
+    return a;
+}
+
+static coghammer_endpoint endpoint_of(const struct sockaddr_in *a) {
+    coghammer_endpoint e = {.len = 4, .udp = ntohs(a->sin_port)};
+    memcpy(e.address, &a->sin_addr, 4);
+    return e;
+}
+
+static void transmit(node *n, const coghammer_endpoint *to, const uint8_t *datagram, size_t len) {
+    struct sockaddr_in a = address_of(to);
+    // a datagram that the system doesn't take is one that got lost
+    (void)!sendto(n->socket, datagram, len, 0, (struct sockaddr *)&a, sizeof a);
+}
+
+// ---- sending: the library writes the body, the host signs it, the library joins both
+
+// The datagram of a body that a writer announced by its code; its size.
+static size_t seal(node *n, const uint8_t *body, uint32_t code, uint8_t datagram[LARGEST]) {
+    uint8_t signature[65];
+    if (COGHAMMER_NUMBER(code)) abort(); // every value here can be written
+    sign_body(&n->id, body, COGHAMMER_VALUE(code), signature);
+    return COGHAMMER_VALUE(coghammer_join(datagram, LARGEST, signature, 65, body, COGHAMMER_VALUE(code)));
+}
+
+static void send_body(node *n, const coghammer_node *to, const uint8_t *body, uint32_t code) {
+    uint8_t datagram[LARGEST];
+    transmit(n, &to->endpoint, datagram, seal(n, body, code, datagram));
+}
+
+void node_ping(node *n, const coghammer_node *to) {
+    uint8_t body[BODY_ROOM], datagram[LARGEST];
+    const coghammer_endpoint *here = &n->self.endpoint, *there = &to->endpoint;
+    uint32_t code = coghammer_write_ping(body, sizeof body, here->address, here->len, here->udp, here->tcp, there->address, there->len,
+                                         there->udp, expiration(), true, 1);
+    size_t len = seal(n, body, code, datagram);
+    // the datagram's first 32 bytes are its hash, which the pong names; only a ping that the table has recorded goes out
+    uint64_t clock = clock_millis();
+    uint8_t answer = coghammer_ping_sent(&n->counters, n->table, TABLE_SIZE, clock, to->key, 64, there->address, there->len, there->udp,
+                                         there->tcp, datagram, 32);
+    record_sent(&n->recording, clock, to, datagram, answer);
+    if (answer == 0) transmit(n, there, datagram, len);
+}
+
+static void send_pong(node *n, const coghammer_node *to, const uint8_t *ping) {
+    uint8_t body[BODY_ROOM];
+    const coghammer_endpoint *e = &to->endpoint;
+    send_body(n, to, body, coghammer_write_pong(body, sizeof body, e->address, e->len, e->udp, ping, 32, expiration(), true, 1));
+}
+
+// How many nodes the table has near a target, with the nodes.
+static size_t closest(const node *n, const uint8_t target[64], coghammer_node list[CLOSEST]) {
+    return COGHAMMER_VALUE(coghammer_closest(list, CLOSEST, n->table, TABLE_SIZE, target, 64));
+}
+
+size_t node_ask(node *n) {
+    coghammer_node list[CLOSEST];
+    uint8_t body[BODY_ROOM];
+    size_t count = closest(n, n->self.key, list);
+    for (size_t i = 0; i < count && i < ASKED; i++) {
+        node_ping(n, &list[i]);
+        send_body(n, &list[i], body, coghammer_write_find_node(body, sizeof body, n->self.key, 64, expiration()));
+        send_body(n, &list[i], body, coghammer_write_enr_request(body, sizeof body, expiration()));
+    }
+    return count;
+}
+
+// The closest nodes in packets of at most twelve; none is one packet with an empty list.
+static void send_closest(node *n, const coghammer_node *to, const uint8_t *target) {
+    coghammer_node list[CLOSEST];
+    uint8_t packed[FULL_PACKET * PACKED], body[BODY_ROOM];
+    size_t count = closest(n, target, list), done = 0;
+    do {
+        size_t part = count - done < FULL_PACKET ? count - done : FULL_PACKET;
+        for (size_t i = 0; i < part; i++) coghammer_pack_node(packed + i * PACKED, &list[done + i]);
+        send_body(n, to, body, coghammer_write_neighbors(body, sizeof body, packed, part * PACKED, expiration()));
+        done += part;
+    } while (done < count);
+    n->full_replies += count == CLOSEST;
+}
+
+static void send_record(node *n, const coghammer_node *to, const uint8_t *request) {
+    uint8_t body[BODY_ROOM];
+    send_body(n, to, body, coghammer_write_enr_response(body, sizeof body, request, 32, n->record, n->record_size));
+}
+
+// ---- receiving
+
+// A node waits because its bucket is full: the bucket's first entry has to show that it is still there.
+static void ping_head(node *n, const uint8_t key[64]) {
+    coghammer_node head = {0};
+    uint64_t numbers[5];
+    if (coghammer_head(n->table, TABLE_SIZE, key, 64, head.key, head.endpoint.address, numbers)) return;
+    head.endpoint.len = (uint8_t)numbers[0];
+    head.endpoint.udp = (uint16_t)numbers[1];
+    head.endpoint.tcp = (uint16_t)numbers[2];
+    if (head.endpoint.len && !numbers[3]) node_ping(n, &head);
+}
+
+// Whether a key's node is an entry of the table: then nothing is nearer to it.
+static bool is_entry(const node *n, const uint8_t key[64]) {
+    coghammer_node list[CLOSEST];
+    return closest(n, key, list) && memcmp(list[0].key, key, 64) == 0;
+}
+
+// Pings the nodes of a Neighbors that are new.
+static void ping_neighbors(node *n, const uint8_t *datagram, size_t len, const uint64_t fields[COGHAMMER_FIELDS]) {
+    size_t start = fields[COGHAMMER_NODES_START], size = fields[COGHAMMER_NODES_LEN];
+    size_t count = coghammer_node_count(datagram, len, start, size);
+    for (size_t i = 0; i < count; i++) {
+        coghammer_node to = {0};
+        uint64_t numbers[3];
+        coghammer_node_at(datagram, len, start, size, i, to.key, to.endpoint.address, numbers);
+        to.endpoint.len = (uint8_t)numbers[0];
+        to.endpoint.udp = (uint16_t)numbers[1];
+        to.endpoint.tcp = (uint16_t)numbers[2];
+        if (to.endpoint.len != 4 || memcmp(to.key, n->self.key, 64) == 0) continue; // this example speaks IPv4 only
+        if (!is_entry(n, to.key)) node_ping(n, &to);
+    }
+}
+
+// Does what an accepted datagram asks for.
+static void handle(node *n, coghammer_node *from, const uint8_t *datagram, size_t len, uint32_t code) {
+    uint8_t type = COGHAMMER_TYPE_OF(code), outcome = COGHAMMER_OUTCOME(code);
+    uint64_t fields[COGHAMMER_FIELDS];
+    coghammer_packet(datagram, len, fields);
+    n->received[type]++;
+    switch (type) {
+    case 1:
+        send_pong(n, from, datagram);
+        from->endpoint.tcp = (uint16_t)fields[COGHAMMER_FROM_TCP];
+        if (outcome) node_ping(n, from);
+        break;
+    case 2:
+        if (outcome == 2) ping_head(n, from->key);
+        break;
+    case 3: send_closest(n, from, datagram + fields[COGHAMMER_TARGET_START]); break;
+    case 4: ping_neighbors(n, datagram, len, fields); break;
+    case 5: send_record(n, from, datagram); break;
+    default: break; // a record: a host that keeps records would check and store it
+    }
+}
+
+void node_receive(node *n) {
+    uint8_t datagram[LARGEST + 1]; // one more, so that a longer one is refused
+    struct sockaddr_in a;
+    socklen_t size = sizeof a;
+    ssize_t got = recvfrom(n->socket, datagram, sizeof datagram, MSG_DONTWAIT, (struct sockaddr *)&a, &size);
+    if (got <= 0) return; // nothing there, or no byte: the log has no form for that
+    size_t len = (size_t)got;
+    coghammer_node from = {.endpoint = endpoint_of(&a)};
+    size_t key_len = recover_signer(datagram, len, from.key);
+    uint64_t clock = clock_millis(), unix_time = unix_seconds();
+    uint32_t code = coghammer_datagram(&n->counters, n->table, TABLE_SIZE, clock, unix_time, from.endpoint.address, from.endpoint.len,
+                                       from.endpoint.udp, from.key, key_len, datagram, len);
+    record_rx(&n->recording, clock, unix_time, &from, key_len, datagram, len, code, n->table);
+    if (COGHAMMER_NUMBER(code) == 0) handle(n, &from, datagram, len, code);
+}
+
+void node_sweep(node *n) {
+    uint64_t clock = clock_millis();
+    record_sweep(&n->recording, clock, coghammer_sweep(&n->counters, n->table, TABLE_SIZE, clock));
+}
+
+// ---- opening and closing
+
+void node_open(node *n, const char *folder, unsigned number) {
+    struct sockaddr_in a = {.sin_family = AF_INET, .sin_addr.s_addr = htonl(INADDR_LOOPBACK)};
+    socklen_t size = sizeof a;
+    memset(n, 0, sizeof *n);
+    n->socket = socket(AF_INET, SOCK_DGRAM, 0);
+    if (n->socket < 0) fail("socket");
+    if (bind(n->socket, (struct sockaddr *)&a, sizeof a)) fail("bind");
+    if (getsockname(n->socket, (struct sockaddr *)&a, &size)) fail("getsockname");
+    identity_new(&n->id);
+    memcpy(n->self.key, n->id.key, 64);
+    n->self.endpoint = endpoint_of(&a);
+    n->self.endpoint.tcp = n->self.endpoint.udp;
+    n->record_size = write_record(&n->id, n->self.endpoint.address, n->self.endpoint.udp, n->record);
+    recording_open(&n->recording, folder, number);
+    coghammer_clear(&n->counters);
+    record_own(&n->recording, n->self.key, coghammer_init(n->table, TABLE_SIZE, n->self.key, 64, BUCKETS));
+}
+
+void node_close(node *n) {
+    recording_close(&n->recording, n->table);
+    close(n->socket);
+}

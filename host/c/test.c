@@ -1,0 +1,266 @@
+// Every function of include/coghammer.h on good and on bad input, and the layout of its structs. Prints one line of counts; the exit
+// status is not 0 where a check failed.
+#include "coghammer.h"
+#include <stdio.h>
+#include <string.h>
+
+enum { BUCKETS = 16, HEADER = 512, SIZE = COGHAMMER_TABLE_SIZE(BUCKETS), LARGEST = 1280, PACKED = COGHAMMER_PACKED_NODE };
+
+static int checks, failures;
+
+static void check(int holds, int line, const char *text) {
+    checks++;
+    if (holds) return;
+    failures++;
+    printf("line %d: %s\n", line, text);
+}
+#define CHECK(condition) check((condition), __LINE__, #condition)
+
+static const uint64_t now_unix = 1700000000;
+static uint8_t own[64], peer[64], signature[65], hash[32];
+static const uint8_t address[4] = {192, 0, 2, 7}, other[4] = {192, 0, 2, 8};
+static uint8_t table[SIZE], before[SIZE];
+static coghammer_counters counters;
+
+// The low byte is the answer number, the rest the value.
+static int is(uint32_t code, uint8_t number, uint32_t value) {
+    return COGHAMMER_NUMBER(code) == number && COGHAMMER_VALUE(code) == value;
+}
+
+static int all(const uint8_t *bytes, size_t len, uint8_t byte) {
+    for (size_t i = 0; i < len; i++)
+        if (bytes[i] != byte) return 0;
+    return 1;
+}
+
+static void layout(void) {
+    CHECK(sizeof(coghammer_counters) == 88 && _Alignof(coghammer_counters) == 4);
+    CHECK(sizeof(((coghammer_counters *)0)->counts) == 88);
+    CHECK(sizeof(coghammer_endpoint) == 22 && _Alignof(coghammer_endpoint) == 2);
+    CHECK(offsetof(coghammer_endpoint, len) == 0 && offsetof(coghammer_endpoint, address) == 1);
+    CHECK(offsetof(coghammer_endpoint, udp) == 18 && offsetof(coghammer_endpoint, tcp) == 20);
+    CHECK(sizeof(coghammer_node) == 86 && _Alignof(coghammer_node) == 2);
+    CHECK(offsetof(coghammer_node, key) == 0 && offsetof(coghammer_node, endpoint) == 64);
+    CHECK(COGHAMMER_NUMBER(0x010203) == 3 && COGHAMMER_VALUE(0x010203) == 0x0102);
+    CHECK(COGHAMMER_TYPE_OF(0x010203) == 2 && COGHAMMER_OUTCOME(0x010203) == 1);
+    CHECK(COGHAMMER_TABLE_SIZE(16) == 46304 && COGHAMMER_FIELDS == 20 && COGHAMMER_RECORD_LEN == 19 && COGHAMMER_PACKED_NODE == 85);
+}
+
+static void hashes(void) {
+    static const uint8_t empty[32] = {0xc5, 0xd2, 0x46, 0x01, 0x86, 0xf7, 0x23, 0x3c, 0x92, 0x7e, 0x7d, 0xb2, 0xdc, 0xc7, 0x03, 0xc0,
+                                      0xe5, 0x00, 0xb6, 0x53, 0xca, 0x82, 0x27, 0x3b, 0x7b, 0xfa, 0xd8, 0x04, 0x5d, 0x85, 0xa4, 0x70};
+    uint8_t found[32];
+    coghammer_keccak256(own, 0, found);
+    CHECK(memcmp(found, empty, 32) == 0);
+}
+
+static void fresh(void) {
+    memset(table, 0xaa, SIZE);
+    CHECK(coghammer_init(table, SIZE - 1, own, 64, BUCKETS) == 1);
+    CHECK(coghammer_init(table, SIZE, own, 64, BUCKETS + 1) == 1);
+    CHECK(coghammer_init(table, HEADER, own, 64, 0) == 1);
+    CHECK(coghammer_init(table, SIZE, own, 63, BUCKETS) == 5);
+    CHECK(all(table, SIZE, 0xaa));
+    CHECK(coghammer_init(table, SIZE, own, 64, BUCKETS) == 0);
+    uint8_t id[32];
+    coghammer_keccak256(own, 64, id);
+    CHECK(memcmp(table, id, 32) == 0 && table[41] == BUCKETS && all(table + 42, SIZE - 42, 0));
+}
+
+// Joins a body that a writer's code announces.
+static size_t datagram_of(uint8_t *datagram, const uint8_t *body, uint32_t code) {
+    CHECK(COGHAMMER_NUMBER(code) == 0);
+    uint32_t joined = coghammer_join(datagram, LARGEST, signature, 65, body, COGHAMMER_VALUE(code));
+    CHECK(is(joined, 0, 97 + COGHAMMER_VALUE(code)));
+    return COGHAMMER_VALUE(joined);
+}
+
+static uint32_t receive(uint64_t clock, const uint8_t *datagram, size_t len) {
+    return coghammer_datagram(&counters, table, SIZE, clock, now_unix, address, 4, 30303, peer, 64, datagram, len);
+}
+
+static uint8_t sent(uint64_t clock) {
+    return coghammer_ping_sent(&counters, table, SIZE, clock, peer, 64, address, 4, 30303, 30304, hash, 32);
+}
+
+static void writers(void) {
+    uint8_t body[LARGEST], datagram[LARGEST], record[3] = {0xc2, 1, 2}, nodes[17 * PACKED];
+    uint64_t fields[COGHAMMER_FIELDS];
+    memset(nodes, 0, sizeof nodes);
+    for (int i = 0; i < 17; i++) nodes[PACKED * i] = 4;
+
+    // one too few bytes of room, the exact room, unwritable values
+    memset(body, 0xaa, sizeof body);
+    CHECK(is(coghammer_write_enr_request(body, 3, 200), 19, 0) && all(body, sizeof body, 0xaa));
+    CHECK(is(coghammer_write_enr_request(body, 4, 200), 0, 4));
+    CHECK(body[0] == 5 && body[1] == 0xc2 && body[2] == 0x81 && body[3] == 200 && all(body + 4, LARGEST - 4, 0xaa));
+    CHECK(is(coghammer_write_ping(body, LARGEST, address, 3, 1, 2, address, 4, 3, 4, false, 0), 20, 0));
+    CHECK(is(coghammer_write_ping(body, 1, address, 4, 1, 2, address, 4, 3, 4, false, 0), 19, 0));
+    CHECK(is(coghammer_write_pong(body, LARGEST, address, 4, 3, hash, 31, 4, false, 0), 20, 0));
+    CHECK(is(coghammer_write_pong(body, 1, address, 4, 3, hash, 32, 4, false, 0), 19, 0));
+    CHECK(is(coghammer_write_find_node(body, LARGEST, own, 63, 1), 20, 0));
+    CHECK(is(coghammer_write_find_node(body, 69, own, 64, 1), 19, 0));
+    CHECK(is(coghammer_write_neighbors(body, LARGEST, nodes, PACKED - 1, 1), 20, 0));
+    CHECK(is(coghammer_write_neighbors(body, LARGEST, nodes, 13 * PACKED, 1), 20, 0));
+    CHECK(is(coghammer_write_neighbors(body, LARGEST, nodes, 17 * PACKED, 1), 20, 0));
+    CHECK(is(coghammer_write_neighbors(body, 1, nodes, 12 * PACKED, 1), 19, 0));
+    CHECK(is(coghammer_write_enr_response(body, LARGEST, hash, 32, record, 2), 20, 0));
+    CHECK(is(coghammer_write_enr_response(body, 1, hash, 32, record, 3), 19, 0));
+    CHECK(is(coghammer_join(datagram, LARGEST, signature, 64, body, 1), 20, 0));
+    CHECK(is(coghammer_join(datagram, LARGEST, signature, 65, body, 0), 20, 0));
+    CHECK(is(coghammer_join(datagram, 97, signature, 65, body, 1), 19, 0));
+
+    // what is written reads back
+    size_t len = datagram_of(datagram, body, coghammer_write_ping(body, LARGEST, address, 4, 1, 2, other, 4, 3, now_unix, true, 9));
+    CHECK(coghammer_packet(datagram, len, fields) == 0);
+    CHECK(fields[COGHAMMER_TYPE] == 1 && fields[COGHAMMER_VERSION] == 4 && fields[COGHAMMER_EXPIRATION] == now_unix);
+    CHECK(fields[COGHAMMER_HAS_ENR_SEQ] == 1 && fields[COGHAMMER_ENR_SEQ] == 9);
+    CHECK(fields[COGHAMMER_FROM_LEN] == 4 && memcmp(datagram + fields[COGHAMMER_FROM_START], address, 4) == 0);
+    CHECK(fields[COGHAMMER_FROM_UDP] == 1 && fields[COGHAMMER_FROM_TCP] == 2);
+    CHECK(fields[COGHAMMER_TO_LEN] == 4 && memcmp(datagram + fields[COGHAMMER_TO_START], other, 4) == 0);
+    CHECK(fields[COGHAMMER_TO_UDP] == 3 && fields[COGHAMMER_HASH_LEN] == 0 && fields[COGHAMMER_RECORD_LEN] == 0);
+
+    len = datagram_of(datagram, body, coghammer_write_pong(body, LARGEST, address, 4, 3, hash, 32, 7, false, 9));
+    CHECK(coghammer_packet(datagram, len, fields) == 0 && fields[COGHAMMER_TYPE] == 2);
+    CHECK(fields[COGHAMMER_HAS_ENR_SEQ] == 0 && fields[COGHAMMER_ENR_SEQ] == 0);
+    CHECK(fields[COGHAMMER_HASH_LEN] == 32 && memcmp(datagram + fields[COGHAMMER_HASH_START], hash, 32) == 0);
+
+    len = datagram_of(datagram, body, coghammer_write_find_node(body, LARGEST, own, 64, 7));
+    CHECK(coghammer_packet(datagram, len, fields) == 0 && fields[COGHAMMER_TYPE] == 3);
+    CHECK(fields[COGHAMMER_TARGET_LEN] == 64 && memcmp(datagram + fields[COGHAMMER_TARGET_START], own, 64) == 0);
+
+    len = datagram_of(datagram, body, coghammer_write_enr_response(body, LARGEST, hash, 32, record, 3));
+    CHECK(coghammer_packet(datagram, len, fields) == 0 && fields[COGHAMMER_TYPE] == 6);
+    CHECK(fields[COGHAMMER_RECORD_LEN] == 3 && memcmp(datagram + fields[COGHAMMER_RECORD_START], record, 3) == 0);
+
+    // a refused packet leaves the fields
+    fields[COGHAMMER_VERSION] = 77;
+    CHECK(coghammer_packet(datagram, 97, fields) == 8 && coghammer_packet(datagram, 98, fields) == 9);
+    datagram[98] = 0xc0;
+    CHECK(coghammer_packet(datagram, len, fields) == 10);
+    CHECK(fields[COGHAMMER_TYPE] == 6 && fields[COGHAMMER_VERSION] == 77);
+}
+
+// The nodes of a Neighbors, from packed ones.
+static void neighbors(void) {
+    coghammer_node node = {{0}, {4, {10, 0, 0, 1}, 30303, 30304}};
+    uint8_t packed[12 * PACKED], body[LARGEST], datagram[LARGEST], key[64], at[16];
+    uint64_t fields[COGHAMMER_FIELDS], numbers[3];
+    for (int i = 0; i < 12; i++) {
+        memset(node.key, i + 1, 64);
+        coghammer_pack_node(packed + PACKED * i, &node);
+    }
+    size_t len = datagram_of(datagram, body, coghammer_write_neighbors(body, LARGEST, packed, sizeof packed, 7));
+    CHECK(coghammer_packet(datagram, len, fields) == 0 && fields[COGHAMMER_TYPE] == 4);
+    size_t start = fields[COGHAMMER_NODES_START], size = fields[COGHAMMER_NODES_LEN];
+    CHECK(coghammer_node_count(datagram, len, start, size) == 12);
+    CHECK(coghammer_node_count(datagram, len, len, 1) == 0 && coghammer_node_count(datagram, len, SIZE_MAX, SIZE_MAX) == 0);
+    coghammer_node_at(datagram, len, start, size, 11, key, at, numbers);
+    CHECK(all(key, 64, 12) && memcmp(at, node.endpoint.address, 16) == 0);
+    CHECK(numbers[0] == 4 && numbers[1] == 30303 && numbers[2] == 30304);
+    coghammer_node_at(datagram, len, start, size, 12, key, at, numbers);
+    CHECK(all(key, 64, 0) && all(at, 16, 0) && numbers[0] == 0 && numbers[1] == 0 && numbers[2] == 0);
+}
+
+static void head(uint8_t number, uint64_t len, uint64_t out, uint64_t since) {
+    uint8_t key[64], at[16];
+    uint64_t numbers[5];
+    memset(key, 0xaa, 64);
+    CHECK(coghammer_head(table, SIZE, peer, 64, key, at, numbers) == number);
+    CHECK(all(key, 64, number ? 0xaa : len ? peer[0] : 0));
+    if (number) return;
+    CHECK(numbers[0] == len && numbers[1] == (len ? 30303 : 0) && numbers[2] == (len ? 30304 : 0));
+    CHECK(numbers[3] == out && numbers[4] == since);
+}
+
+static void calls(void) {
+    uint8_t body[LARGEST], datagram[LARGEST], damaged[LARGEST];
+    coghammer_node list[17];
+    memset(&counters, 0xff, sizeof counters);
+    coghammer_clear(&counters);
+    for (int i = 0; i < 22; i++) CHECK(counters.counts[i] == 0);
+
+    // a ping from a node that isn't held: a ping is due, too
+    size_t len = datagram_of(datagram, body, coghammer_write_ping(body, LARGEST, address, 4, 1, 2, other, 4, 3, now_unix, false, 0));
+    memcpy(before, table, SIZE);
+    memcpy(damaged, datagram, len);
+    damaged[len - 1] ^= 1;
+    CHECK(is(receive(10, datagram, 97), 3, 0) && is(receive(10, damaged, len), 4, 0));
+    CHECK(is(coghammer_datagram(&counters, table, SIZE, 10, now_unix, address, 4, 1, peer, 0, datagram, len), 5, 0));
+    CHECK(is(coghammer_datagram(&counters, table, SIZE, 10, now_unix, address, 3, 1, peer, 64, datagram, len), 6, 0));
+    CHECK(is(coghammer_datagram(&counters, table, SIZE, 10, now_unix, address, 4, 1, own, 64, datagram, len), 7, 0));
+    CHECK(is(coghammer_datagram(&counters, table, SIZE, 10, now_unix + 1, address, 4, 1, peer, 64, datagram, len), 11, 0));
+    CHECK(is(coghammer_datagram(&counters, table, SIZE - 1, 10, now_unix, address, 4, 1, peer, 64, datagram, len), 1, 0));
+    CHECK(memcmp(before, table, SIZE) == 0);
+    CHECK(is(receive(10, datagram, len), 0, 1 + 256 * 1));
+    CHECK(is(receive(9, datagram, len), 2, 0));
+
+    // ping sent, its pong
+    CHECK(coghammer_ping_sent(&counters, table, SIZE, 20, peer, 64, address, 4, 1, 2, hash, 31) == 4);
+    CHECK(coghammer_ping_sent(&counters, table, SIZE, 20, peer, 63, address, 4, 1, 2, hash, 32) == 5);
+    CHECK(sent(20) == 0 && sent(20) == 17);
+    CHECK(coghammer_ping_sent(&counters, table, SIZE, 20, peer, 64, other, 4, 30303, 1, hash, 32) == 16);
+    head(0, 0, 0, 0);
+    len = datagram_of(datagram, body, coghammer_write_pong(body, LARGEST, address, 4, 3, hash, 32, now_unix, false, 0));
+    CHECK(is(receive(521, datagram, len), 15, 0) && is(receive(520, datagram, len), 0, 2 + 256 * 1));
+    CHECK(is(receive(520, datagram, len), 14, 0));
+    head(0, 4, 0, 0);
+
+    // closest
+    memset(list, 0xee, sizeof list);
+    CHECK(is(coghammer_closest(list, 15, table, SIZE, own, 64), 19, 0) && is(coghammer_closest(list, 16, table, SIZE, own, 63), 5, 0));
+    CHECK(is(coghammer_closest(list, 16, table, SIZE - 1, own, 64), 1, 0) && all((uint8_t *)list, sizeof list, 0xee));
+    CHECK(is(coghammer_closest(list, 17, table, SIZE, own, 64), 0, 1));
+    CHECK(memcmp(list[0].key, peer, 64) == 0 && list[0].endpoint.len == 4 && memcmp(list[0].endpoint.address, address, 4) == 0);
+    CHECK(list[0].endpoint.udp == 30303 && list[0].endpoint.tcp == 30304 && all((uint8_t *)(list + 1), 16 * sizeof list[0], 0xee));
+
+    // a verified sender
+    len = datagram_of(datagram, body, coghammer_write_find_node(body, LARGEST, own, 64, now_unix));
+    CHECK(is(receive(530, datagram, len), 0, 3));
+    CHECK(is(coghammer_datagram(&counters, table, SIZE, 530, now_unix, other, 4, 30303, peer, 64, datagram, len), 13, 0));
+    len = datagram_of(datagram, body, coghammer_write_neighbors(body, LARGEST, datagram, 0, now_unix));
+    CHECK(is(receive(530, datagram, len), 0, 4));
+    len = datagram_of(datagram, body, coghammer_write_enr_request(body, LARGEST, now_unix));
+    CHECK(is(receive(530, datagram, len), 0, 5));
+    const uint8_t record[1] = {0xc0};
+    len = datagram_of(datagram, body, coghammer_write_enr_response(body, LARGEST, hash, 32, record, 1));
+    CHECK(is(receive(530, datagram, len), 0, 6));
+
+    // a ping unanswered
+    CHECK(sent(600) == 0);
+    head(0, 4, 1, 600);
+    CHECK(coghammer_sweep(&counters, table, SIZE, 599) == 2 && coghammer_sweep(&counters, table, SIZE, 1100) == 0);
+    head(0, 4, 1, 600);
+    CHECK(coghammer_sweep(&counters, table, SIZE, 1101) == 0);
+    head(0, 0, 0, 0);
+
+    static const uint32_t wanted[22] = {[0] = 10, [1] = 1, [2] = 2, [3] = 1, [4] = 2, [5] = 2, [6] = 1, [7] = 1,
+                                        [11] = 1, [13] = 1, [14] = 1, [15] = 1, [16] = 1, [17] = 1};
+    CHECK(memcmp(counters.counts, wanted, sizeof wanted) == 0);
+}
+
+static void unsound(void) {
+    uint8_t key[64], at[16];
+    uint64_t numbers[5];
+    CHECK(coghammer_head(table, SIZE, own, 64, key, at, numbers) == 7 && coghammer_head(table, SIZE, own, 63, key, at, numbers) == 5);
+    table[100] = 1;
+    memcpy(before, table, SIZE);
+    head(1, 0, 0, 0);
+    CHECK(coghammer_sweep(&counters, table, SIZE, 2000) == 1 && sent(2000) == 1 && memcmp(before, table, SIZE) == 0);
+}
+
+int main(void) {
+    memset(own, 1, 64);
+    memset(peer, 2, 64);
+    memset(signature, 3, 65);
+    memset(hash, 4, 32);
+    layout();
+    hashes();
+    fresh();
+    writers();
+    neighbors();
+    calls();
+    unsound();
+    printf("%d checks, %d failed\n", checks, failures);
+    return failures != 0;
+}

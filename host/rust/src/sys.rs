@@ -1,0 +1,366 @@
+//! The functions of include/coghammer.h, and a safe function over each. The only file with unsafe code.
+//!
+//! What makes every call here sound: a slice passes as its pointer and length, so all that the callee may
+//! read or write is lent for the length of the call; a `&mut` is distinct from every other argument by
+//! Rust's own rule; no function keeps a pointer; and each is proved to end, not to panic, and to read and
+//! write inside what it is lent, for any contents. An empty slice passes as a pointer that isn't null.
+
+use crate::{Counters, Node};
+
+extern "C" {
+    fn coghammer_init(table: *mut u8, table_len: usize, key: *const u8, key_len: usize, buckets: usize)
+        -> u8;
+    fn coghammer_datagram(
+        counters: *mut Counters,
+        table: *mut u8,
+        table_len: usize,
+        clock: u64,
+        unix: u64,
+        address: *const u8,
+        address_len: usize,
+        port: u16,
+        signer: *const u8,
+        signer_len: usize,
+        datagram: *const u8,
+        datagram_len: usize,
+    ) -> u32;
+    fn coghammer_ping_sent(
+        counters: *mut Counters,
+        table: *mut u8,
+        table_len: usize,
+        clock: u64,
+        key: *const u8,
+        key_len: usize,
+        address: *const u8,
+        address_len: usize,
+        udp: u16,
+        tcp: u16,
+        hash: *const u8,
+        hash_len: usize,
+    ) -> u8;
+    fn coghammer_sweep(counters: *mut Counters, table: *mut u8, table_len: usize, clock: u64) -> u8;
+    fn coghammer_closest(
+        list: *mut Node,
+        list_len: usize,
+        table: *const u8,
+        table_len: usize,
+        target: *const u8,
+        target_len: usize,
+    ) -> u32;
+    fn coghammer_clear(counters: *mut Counters);
+    fn coghammer_head(
+        table: *const u8,
+        table_len: usize,
+        key: *const u8,
+        key_len: usize,
+        node_key: *mut [u8; 64],
+        address: *mut [u8; 16],
+        numbers: *mut [u64; 5],
+    ) -> u8;
+    fn coghammer_packet(datagram: *const u8, datagram_len: usize, fields: *mut [u64; 20]) -> u8;
+    fn coghammer_node_count(datagram: *const u8, datagram_len: usize, start: usize, len: usize) -> usize;
+    fn coghammer_node_at(
+        datagram: *const u8,
+        datagram_len: usize,
+        start: usize,
+        len: usize,
+        n: usize,
+        node_key: *mut [u8; 64],
+        address: *mut [u8; 16],
+        numbers: *mut [u64; 3],
+    );
+    fn coghammer_write_ping(
+        buf: *mut u8,
+        buf_len: usize,
+        from: *const u8,
+        from_len: usize,
+        from_udp: u16,
+        from_tcp: u16,
+        to: *const u8,
+        to_len: usize,
+        to_udp: u16,
+        expiration: u64,
+        has_enr_seq: bool,
+        enr_seq: u64,
+    ) -> u32;
+    fn coghammer_write_pong(
+        buf: *mut u8,
+        buf_len: usize,
+        to: *const u8,
+        to_len: usize,
+        to_udp: u16,
+        ping_hash: *const u8,
+        ping_hash_len: usize,
+        expiration: u64,
+        has_enr_seq: bool,
+        enr_seq: u64,
+    ) -> u32;
+    fn coghammer_write_find_node(
+        buf: *mut u8,
+        buf_len: usize,
+        target: *const u8,
+        target_len: usize,
+        expiration: u64,
+    ) -> u32;
+    fn coghammer_write_neighbors(
+        buf: *mut u8,
+        buf_len: usize,
+        nodes: *const u8,
+        nodes_len: usize,
+        expiration: u64,
+    ) -> u32;
+    fn coghammer_write_enr_request(buf: *mut u8, buf_len: usize, expiration: u64) -> u32;
+    fn coghammer_write_enr_response(
+        buf: *mut u8,
+        buf_len: usize,
+        request_hash: *const u8,
+        request_hash_len: usize,
+        record: *const u8,
+        record_len: usize,
+    ) -> u32;
+    fn coghammer_join(
+        buf: *mut u8,
+        buf_len: usize,
+        signature: *const u8,
+        signature_len: usize,
+        body: *const u8,
+        body_len: usize,
+    ) -> u32;
+    fn coghammer_keccak256(message: *const u8, message_len: usize, hash: *mut [u8; 32]);
+}
+
+// ---- the table's calls
+
+pub fn init(table: &mut [u8], key: &[u8], buckets: usize) -> u8 {
+    // SAFETY: two slices, the first lent for writing.
+    unsafe { coghammer_init(table.as_mut_ptr(), table.len(), key.as_ptr(), key.len(), buckets) }
+}
+
+#[allow(clippy::too_many_arguments)]
+pub fn datagram(
+    counters: &mut Counters,
+    table: &mut [u8],
+    clock: u64,
+    unix: u64,
+    address: &[u8],
+    port: u16,
+    signer: &[u8],
+    datagram: &[u8],
+) -> u32 {
+    // SAFETY: `Counters` has C's layout and is lent for writing, as the table is; the rest is read.
+    unsafe {
+        coghammer_datagram(
+            counters,
+            table.as_mut_ptr(),
+            table.len(),
+            clock,
+            unix,
+            address.as_ptr(),
+            address.len(),
+            port,
+            signer.as_ptr(),
+            signer.len(),
+            datagram.as_ptr(),
+            datagram.len(),
+        )
+    }
+}
+
+#[allow(clippy::too_many_arguments)]
+pub fn ping_sent(
+    counters: &mut Counters,
+    table: &mut [u8],
+    clock: u64,
+    key: &[u8],
+    address: &[u8],
+    udp: u16,
+    tcp: u16,
+    hash: &[u8],
+) -> u8 {
+    // SAFETY: as for `datagram`.
+    unsafe {
+        coghammer_ping_sent(
+            counters,
+            table.as_mut_ptr(),
+            table.len(),
+            clock,
+            key.as_ptr(),
+            key.len(),
+            address.as_ptr(),
+            address.len(),
+            udp,
+            tcp,
+            hash.as_ptr(),
+            hash.len(),
+        )
+    }
+}
+
+pub fn sweep(counters: &mut Counters, table: &mut [u8], clock: u64) -> u8 {
+    // SAFETY: counters and table are lent for writing.
+    unsafe { coghammer_sweep(counters, table.as_mut_ptr(), table.len(), clock) }
+}
+
+pub fn closest(list: &mut [Node], table: &[u8], target: &[u8]) -> u32 {
+    // SAFETY: `Node` has C's layout and any bytes are a node; the length counts nodes.
+    unsafe {
+        coghammer_closest(
+            list.as_mut_ptr(),
+            list.len(),
+            table.as_ptr(),
+            table.len(),
+            target.as_ptr(),
+            target.len(),
+        )
+    }
+}
+
+pub fn clear(counters: &mut Counters) {
+    // SAFETY: `Counters` has C's layout and is lent for writing.
+    unsafe { coghammer_clear(counters) }
+}
+
+pub fn head(
+    table: &[u8],
+    key: &[u8],
+    node_key: &mut [u8; 64],
+    address: &mut [u8; 16],
+    numbers: &mut [u64; 5],
+) -> u8 {
+    // SAFETY: two slices that are read, three arrays of the lengths declared.
+    unsafe {
+        coghammer_head(table.as_ptr(), table.len(), key.as_ptr(), key.len(), node_key, address, numbers)
+    }
+}
+
+// ---- packets read
+
+pub fn packet(datagram: &[u8], fields: &mut [u64; 20]) -> u8 {
+    // SAFETY: a slice that is read, an array of the length declared.
+    unsafe { coghammer_packet(datagram.as_ptr(), datagram.len(), fields) }
+}
+
+pub fn node_count(datagram: &[u8], start: usize, len: usize) -> usize {
+    // SAFETY: a slice that is read; start and length may be any numbers.
+    unsafe { coghammer_node_count(datagram.as_ptr(), datagram.len(), start, len) }
+}
+
+pub fn node_at(
+    datagram: &[u8],
+    start: usize,
+    len: usize,
+    n: usize,
+    node_key: &mut [u8; 64],
+    address: &mut [u8; 16],
+    numbers: &mut [u64; 3],
+) {
+    // SAFETY: as for `node_count`; three arrays of the lengths declared.
+    unsafe { coghammer_node_at(datagram.as_ptr(), datagram.len(), start, len, n, node_key, address, numbers) }
+}
+
+// ---- packets written
+
+#[allow(clippy::too_many_arguments)]
+pub fn write_ping(
+    buf: &mut [u8],
+    from: &[u8],
+    from_udp: u16,
+    from_tcp: u16,
+    to: &[u8],
+    to_udp: u16,
+    expiration: u64,
+    enr_seq: Option<u64>,
+) -> u32 {
+    // SAFETY: the first slice is lent for writing, the others are read.
+    unsafe {
+        coghammer_write_ping(
+            buf.as_mut_ptr(),
+            buf.len(),
+            from.as_ptr(),
+            from.len(),
+            from_udp,
+            from_tcp,
+            to.as_ptr(),
+            to.len(),
+            to_udp,
+            expiration,
+            enr_seq.is_some(),
+            enr_seq.unwrap_or(0),
+        )
+    }
+}
+
+pub fn write_pong(
+    buf: &mut [u8],
+    to: &[u8],
+    to_udp: u16,
+    ping_hash: &[u8],
+    expiration: u64,
+    enr_seq: Option<u64>,
+) -> u32 {
+    // SAFETY: as for `write_ping`.
+    unsafe {
+        coghammer_write_pong(
+            buf.as_mut_ptr(),
+            buf.len(),
+            to.as_ptr(),
+            to.len(),
+            to_udp,
+            ping_hash.as_ptr(),
+            ping_hash.len(),
+            expiration,
+            enr_seq.is_some(),
+            enr_seq.unwrap_or(0),
+        )
+    }
+}
+
+pub fn write_find_node(buf: &mut [u8], target: &[u8], expiration: u64) -> u32 {
+    // SAFETY: as for `write_ping`.
+    unsafe {
+        coghammer_write_find_node(buf.as_mut_ptr(), buf.len(), target.as_ptr(), target.len(), expiration)
+    }
+}
+
+pub fn write_neighbors(buf: &mut [u8], nodes: &[u8], expiration: u64) -> u32 {
+    // SAFETY: as for `write_ping`; the nodes are bytes, of any number.
+    unsafe { coghammer_write_neighbors(buf.as_mut_ptr(), buf.len(), nodes.as_ptr(), nodes.len(), expiration) }
+}
+
+pub fn write_enr_request(buf: &mut [u8], expiration: u64) -> u32 {
+    // SAFETY: one slice that is lent for writing.
+    unsafe { coghammer_write_enr_request(buf.as_mut_ptr(), buf.len(), expiration) }
+}
+
+pub fn write_enr_response(buf: &mut [u8], request_hash: &[u8], record: &[u8]) -> u32 {
+    // SAFETY: as for `write_ping`.
+    unsafe {
+        coghammer_write_enr_response(
+            buf.as_mut_ptr(),
+            buf.len(),
+            request_hash.as_ptr(),
+            request_hash.len(),
+            record.as_ptr(),
+            record.len(),
+        )
+    }
+}
+
+pub fn join(buf: &mut [u8], signature: &[u8], body: &[u8]) -> u32 {
+    // SAFETY: as for `write_ping`.
+    unsafe {
+        coghammer_join(
+            buf.as_mut_ptr(),
+            buf.len(),
+            signature.as_ptr(),
+            signature.len(),
+            body.as_ptr(),
+            body.len(),
+        )
+    }
+}
+
+pub fn keccak256(message: &[u8], hash: &mut [u8; 32]) {
+    // SAFETY: a slice that is read, an array of the length declared.
+    unsafe { coghammer_keccak256(message.as_ptr(), message.len(), hash) }
+}

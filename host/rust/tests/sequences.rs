@@ -1,0 +1,200 @@
+//! Generated sequences of calls, here and in the reference: the same answers, values, fields, lists, counters
+//! and table bytes after every call. COGHAMMER_CALLS says how many calls (20,000), COGHAMMER_SEED from which
+//! seed.
+
+mod common;
+
+use std::collections::BTreeMap;
+
+use coghammer::{Counters, MonotonicMillis, Node, Number, Packet, Table, UnixSeconds};
+use common::{accepted, compare_reading, counted, fields, head, head_of, node};
+use reference::bucket::PongOutcome;
+use reference::calls::{Call, Reply};
+use reference::generator::calls::Calls;
+use reference::generator::random::Random;
+use reference::generator::tables::sound_table;
+use reference::keccak::keccak256;
+use reference::layout::table_bytes;
+use reference::table::{self, Outcome};
+
+/// The two tables with their counters.
+struct Pair {
+    ours: Table,
+    counters: Counters,
+    theirs: table::Table,
+    their_counters: table::Counters,
+    reached: BTreeMap<String, usize>,
+}
+
+impl Pair {
+    /// Both fresh.
+    fn fresh(own: &[u8], buckets: u64) -> Pair {
+        let ours = Table::new(own, buckets as usize).expect("a fresh table");
+        let theirs = table::Table::init(buckets, own).expect("a fresh table");
+        assert_eq!(ours.bytes(), table_bytes(&theirs), "fresh table of {buckets}");
+        Pair {
+            ours,
+            counters: Counters::default(),
+            theirs,
+            their_counters: table::Counters::default(),
+            reached: BTreeMap::new(),
+        }
+    }
+
+    fn set(&mut self, table: table::Table) {
+        self.ours = Table::from_bytes(table_bytes(&table));
+        self.theirs = table;
+    }
+
+    fn reach(&mut self, what: String) {
+        *self.reached.entry(what).or_default() += 1;
+    }
+
+    fn call(&mut self, call: &Call) {
+        let reply = call.run(&mut self.theirs, &mut self.their_counters);
+        let name = match call {
+            Call::Datagram { signer, datagram, .. } => {
+                self.datagram(call, &reply);
+                compare_reading(datagram);
+                self.head(signer);
+                "datagram"
+            }
+            Call::PingSent { now, key, endpoint, hash } => {
+                let now = MonotonicMillis(*now);
+                let (udp, tcp) = (endpoint.udp, endpoint.tcp);
+                let ours =
+                    self.ours.ping_sent(&mut self.counters, now, key, &endpoint.address, udp, tcp, hash);
+                assert_eq!(Reply::PingSent(ours), reply, "{call:?}");
+                self.head(key);
+                "ping sent"
+            }
+            Call::Sweep { now } => {
+                let ours = self.ours.sweep(&mut self.counters, MonotonicMillis(*now));
+                assert_eq!(Reply::Sweep(ours), reply, "{call:?}");
+                "sweep"
+            }
+            Call::Closest { target, room } => {
+                self.closest(target, *room, &reply);
+                "closest"
+            }
+        };
+        self.reach(format!("{name} {}", reply.number()));
+        assert_eq!(self.counters.counts, self.their_counters.0, "counters after {call:?}");
+        assert!(self.ours.bytes() == table_bytes(&self.theirs), "table bytes after {call:?}");
+    }
+
+    fn datagram(&mut self, call: &Call, reply: &Reply) {
+        let Call::Datagram { now, unix, address, port, signer, datagram } = call else { unreachable!() };
+        let Reply::Datagram(reply) = reply else { unreachable!() };
+        let (now, unix) = (MonotonicMillis(*now), UnixSeconds(*unix));
+        let ours = self.ours.datagram(&mut self.counters, now, unix, address, *port, signer, datagram);
+        assert_eq!(ours, reply.as_ref().map(accepted).map_err(|number| *number), "{call:?}");
+        let Ok(reply) = reply else { return };
+        self.reach(format!("datagram, {:?}", ours.unwrap()));
+        let packet = Packet::read(datagram).expect("an accepted datagram has fields");
+        assert_eq!(fields(&packet), reply.packet, "fields of {call:?}");
+        if let Outcome::Pong(PongOutcome::Wait { head: first, ping }) = &reply.outcome {
+            let first = head(node(first), *ping);
+            assert_eq!(self.ours.head(signer), Ok(Some(first)), "head after {call:?}");
+        }
+    }
+
+    fn closest(&mut self, target: &[u8], room: usize, reply: &Reply) {
+        let Reply::Closest(reply) = reply else { unreachable!() };
+        let untouched = Node { key: [0xee; 64], ..Node::EMPTY };
+        let mut list = vec![untouched; room];
+        let ours = self.ours.closest_in(&mut list, target);
+        let mut wanted: Vec<Node> = reply.iter().flatten().map(node).collect();
+        assert_eq!(ours, reply.as_ref().map(Vec::len).map_err(|number| *number));
+        wanted.resize(room, untouched);
+        assert_eq!(list, wanted, "closest to {}", reference::hex(target));
+        if room == 16 {
+            let found = self.ours.closest(target).map(|list| list.len());
+            assert_eq!(found, ours, "closest in a Vec");
+        }
+    }
+
+    /// The head of a key's bucket, for any key.
+    fn head(&mut self, key: &[u8]) {
+        let ours = self.ours.head(key);
+        self.reach(format!("head {}", table::number(&ours)));
+        assert_eq!(ours, head_in(&self.theirs, key), "head of the bucket of {}", reference::hex(key));
+    }
+}
+
+fn head_in(table: &table::Table, key: &[u8]) -> Result<Option<coghammer::Head>, Number> {
+    if key.len() != 64 {
+        return Err(5);
+    }
+    let id = keccak256(key);
+    if id == table.own {
+        return Err(7);
+    }
+    let bucket = &table.buckets[table.index(&id).ok_or(12)?];
+    Ok(bucket.entries.front().map(head_of))
+}
+
+/// Every answer of every call that a sound table can give.
+const WANTED: [(&str, &[u8]); 5] = [
+    ("datagram", &[0, 2, 3, 4, 5, 6, 7, 8, 9, 10, 11, 12, 13, 14, 15]),
+    ("ping sent", &[0, 2, 4, 5, 6, 7, 12, 16, 17, 18]),
+    ("sweep", &[0, 2]),
+    ("closest", &[0, 5, 19]),
+    ("head", &[0, 5, 7, 12]),
+];
+
+#[test]
+fn sequences() {
+    let total = common::calls(20_000);
+    let mut random = Random::new(common::seed());
+    let mut reached = BTreeMap::new();
+    let (mut made, mut tables) = (0, 0);
+    while made < total {
+        let buckets = *random.pick(&[1, 1, 2, 2, 3, 3, 3, 4, 16, 16, 16, 16, 17, 256]);
+        let most = if buckets == 256 { 100 } else { 600 };
+        let length = (random.between(20, most) as usize).min(total - made);
+        let keys = *random.pick(&[32, 64, 128, 512, 1024]);
+        let mut calls = Calls::new(random.number(), keys, true);
+        let mut pair = Pair::fresh(&calls.peers.own, buckets);
+        if random.chance(50) {
+            let table = sound_table(&mut calls, buckets);
+            pair.set(table);
+        }
+        for _ in 0..length {
+            let call = calls.next(Some(&pair.theirs));
+            pair.call(&call);
+        }
+        if random.chance(30) {
+            pair.counters.clear();
+            assert_eq!(pair.counters, Counters::default());
+        }
+        for (what, count) in pair.reached {
+            *reached.entry(what).or_default() += count;
+        }
+        made += length;
+        tables += 1;
+    }
+    for (what, count) in &reached {
+        let _: &usize = count;
+        println!("{count:>9}  {what}");
+    }
+    let wanted = WANTED.iter().flat_map(|(name, numbers)| numbers.iter().map(move |n| format!("{name} {n}")));
+    let missing: Vec<String> = wanted.filter(|what| !reached.contains_key(what)).collect();
+    assert!(missing.is_empty() || total < 20_000, "never reached: {}", missing.join("; "));
+    counted(made, "calls on sound tables agree in answer, fields, counters and every table byte");
+    counted(tables, "tables");
+}
+
+/// A count stays at 4,294,967,295.
+#[test]
+fn full_counters() {
+    let mut table = Table::new(&[1; 64], 1).unwrap();
+    let mut counters = Counters { counts: [u32::MAX - 1; 22] };
+    for _ in 0..3 {
+        table.sweep(&mut counters, MonotonicMillis(7)).unwrap();
+        assert_eq!(table.sweep(&mut counters, MonotonicMillis(6)), Err(2));
+    }
+    let mut wanted = [u32::MAX - 1; 22];
+    (wanted[0], wanted[2]) = (u32::MAX, u32::MAX);
+    assert_eq!(counters.counts, wanted);
+}

@@ -1,0 +1,519 @@
+// fuzz SECONDS [SEED]: drives the functions of include/coghammer.h with sound, mutated and random tables, with datagrams mutated from valid
+// ones, and with rooms of every size, for so long. The last line says how many calls were made; the exit status is not 0 where a check failed.
+//
+// Every call is made twice, with its memory lent in two ways, and must answer the same and leave the same bytes. A block is lent on the heap
+// in its exact size, where the sanitizer watches, or right before or right behind a page that may not be touched: the library itself is
+// compiled without instrumentation, and a byte outside a block is noticed there all the same. For the same reason there is no coverage for
+// libFuzzer to follow, and the inputs are made here with the rules in mind.
+#include "coghammer.h"
+#include <inttypes.h>
+#include <stdio.h>
+#include <stdlib.h>
+#include <string.h>
+#include <sys/mman.h>
+#include <time.h>
+#include <unistd.h>
+
+enum {
+    HEADER = 512, BUCKET = 2862, ENTRY = 143, MOST = COGHAMMER_TABLE_SIZE(257), LARGEST = 1280, LONGEST = 1400, PACKED = COGHAMMER_PACKED_NODE,
+    PEERS = 48, ARGUMENTS = 6, MARGIN = 64, MARK = 0xa5
+};
+
+static uint64_t calls, reached[22], seed;
+
+static void fail(const char *what) {
+    printf("seed %" PRIu64 ", call %" PRIu64 ": %s\n", seed, calls, what);
+    fflush(stdout);
+    abort();
+}
+
+static void check(bool holds, const char *what) {
+    if (!holds) fail(what);
+}
+
+// ---- random numbers (SplitMix64)
+
+static uint64_t state;
+
+static uint64_t any(void) {
+    uint64_t z = state += 0x9e3779b97f4a7c15;
+    z = (z ^ (z >> 30)) * 0xbf58476d1ce4e5b9;
+    z = (z ^ (z >> 27)) * 0x94d049bb133111eb;
+    return z ^ (z >> 31);
+}
+static size_t below(size_t n) { return any() % n; }
+static bool chance(unsigned percent) { return below(100) < percent; }
+static uint64_t any_size(void) { return any() >> below(64); }
+static void fill(uint8_t *to, size_t len) {
+    for (size_t i = 0; i < len; i++) to[i] = (uint8_t)any();
+}
+
+// ---- memory that is lent
+
+// Pages between two that may not be touched; one for each argument.
+static uint8_t *pages[ARGUMENTS];
+static size_t room;
+
+static void make_pages(void) {
+    size_t page = (size_t)sysconf(_SC_PAGESIZE);
+    room = (MOST + 2 * page) / page * page;
+    for (int i = 0; i < ARGUMENTS; i++) {
+        uint8_t *all = mmap(NULL, room + 2 * page, PROT_NONE, MAP_PRIVATE | MAP_ANONYMOUS, -1, 0);
+        if (all == MAP_FAILED || mprotect(all + page, room, PROT_READ | PROT_WRITE)) fail("no memory");
+        pages[i] = all + page;
+    }
+}
+
+enum place { HEAP, BEFORE_PAGE, BEHIND_PAGE, PLACES };
+
+// An argument: its bytes, and where they go to after the call if it is lent for writing.
+typedef struct {
+    const void *bytes;
+    size_t len;
+    void *after;
+} lent;
+
+static uint8_t *lend(const lent *a, int i, enum place place) {
+    uint8_t *at = place == HEAP ? malloc(a->len) : place == BEHIND_PAGE ? pages[i] : pages[i] + room - a->len;
+    if (!at) fail("no memory");
+    memcpy(at, a->bytes, a->len);
+    if (place == BEFORE_PAGE) memset(at - MARGIN, MARK, MARGIN);
+    if (place == BEHIND_PAGE) memset(at + a->len, MARK, MARGIN);
+    return at;
+}
+
+// Takes a block back into `kept`: what was lent for reading, and what lies beside it, is as it was. A second call must leave the same bytes.
+static void take_back(const lent *a, uint8_t *at, enum place place, uint8_t *kept, bool second) {
+    for (int i = 0; i < MARGIN; i++) {
+        if (place == BEFORE_PAGE) check(at[i - MARGIN] == MARK, "a byte before a block was written");
+        if (place == BEHIND_PAGE) check(at[a->len + (size_t)i] == MARK, "a byte behind a block was written");
+    }
+    if (!a->after) check(memcmp(a->bytes, at, a->len) == 0, "bytes that were lent for reading changed");
+    if (second) check(memcmp(kept, at, a->len) == 0, "the same call left other bytes");
+    memcpy(kept, at, a->len);
+    if (place == HEAP) free(at);
+}
+
+typedef uint64_t function(uint8_t **p, const size_t *len, const uint64_t *n);
+
+static uint64_t call(function *f, const lent *arguments, const uint64_t *numbers) {
+    static uint8_t kept[ARGUMENTS][MOST];
+    uint64_t answers[2];
+    int count = 0;
+    while (count < ARGUMENTS && arguments[count].bytes) count++;
+    for (int turn = 0; turn < 2; turn++) {
+        uint8_t *p[ARGUMENTS];
+        size_t len[ARGUMENTS];
+        enum place place[ARGUMENTS];
+        for (int i = 0; i < count; i++) {
+            place[i] = (enum place)below(PLACES);
+            p[i] = lend(&arguments[i], i, place[i]);
+            len[i] = arguments[i].len;
+        }
+        answers[turn] = f(p, len, numbers);
+        calls++;
+        for (int i = 0; i < count; i++) take_back(&arguments[i], p[i], place[i], kept[i], turn);
+    }
+    for (int i = 0; i < count; i++)
+        if (arguments[i].after) memcpy(arguments[i].after, kept[i], arguments[i].len);
+    check(answers[0] == answers[1], "the same call gave another answer");
+    return answers[0];
+}
+
+// ---- the functions
+
+static uint64_t init(uint8_t **p, const size_t *len, const uint64_t *n) { return coghammer_init(p[0], len[0], p[1], len[1], n[0]); }
+static uint64_t datagram(uint8_t **p, const size_t *len, const uint64_t *n) {
+    return coghammer_datagram((coghammer_counters *)p[0], p[1], len[1], n[0], n[1], p[2], len[2], (uint16_t)n[2], p[3], len[3], p[4], len[4]);
+}
+static uint64_t ping_sent(uint8_t **p, const size_t *len, const uint64_t *n) {
+    return coghammer_ping_sent((coghammer_counters *)p[0], p[1], len[1], n[0], p[2], len[2], p[3], len[3], (uint16_t)n[1], (uint16_t)n[2],
+                               p[4], len[4]);
+}
+static uint64_t sweep(uint8_t **p, const size_t *len, const uint64_t *n) {
+    return coghammer_sweep((coghammer_counters *)p[0], p[1], len[1], n[0]);
+}
+static uint64_t closest(uint8_t **p, const size_t *len, const uint64_t *n) {
+    (void)n;
+    return coghammer_closest((coghammer_node *)p[0], len[0] / sizeof(coghammer_node), p[1], len[1], p[2], len[2]);
+}
+static uint64_t clear(uint8_t **p, const size_t *len, const uint64_t *n) {
+    (void)len, (void)n;
+    coghammer_clear((coghammer_counters *)p[0]);
+    return 0;
+}
+static uint64_t head(uint8_t **p, const size_t *len, const uint64_t *n) {
+    (void)n;
+    return coghammer_head(p[0], len[0], p[1], len[1], p[2], p[3], (uint64_t *)p[4]);
+}
+static uint64_t packet(uint8_t **p, const size_t *len, const uint64_t *n) {
+    (void)n;
+    return coghammer_packet(p[0], len[0], (uint64_t *)p[1]);
+}
+static uint64_t node_count(uint8_t **p, const size_t *len, const uint64_t *n) { return coghammer_node_count(p[0], len[0], n[0], n[1]); }
+static uint64_t node_at(uint8_t **p, const size_t *len, const uint64_t *n) {
+    coghammer_node_at(p[0], len[0], n[0], n[1], n[2], p[1], p[2], (uint64_t *)p[3]);
+    return 0;
+}
+static uint64_t write_ping(uint8_t **p, const size_t *len, const uint64_t *n) {
+    return coghammer_write_ping(p[0], len[0], p[1], len[1], (uint16_t)n[1], (uint16_t)n[2], p[2], len[2], (uint16_t)n[3], n[0], n[1] & 1, n[2]);
+}
+static uint64_t write_pong(uint8_t **p, const size_t *len, const uint64_t *n) {
+    return coghammer_write_pong(p[0], len[0], p[1], len[1], (uint16_t)n[1], p[2], len[2], n[0], n[1] & 1, n[2]);
+}
+static uint64_t write_find_node(uint8_t **p, const size_t *len, const uint64_t *n) {
+    return coghammer_write_find_node(p[0], len[0], p[1], len[1], n[0]);
+}
+static uint64_t write_neighbors(uint8_t **p, const size_t *len, const uint64_t *n) {
+    return coghammer_write_neighbors(p[0], len[0], p[1], len[1], n[0]);
+}
+static uint64_t write_enr_request(uint8_t **p, const size_t *len, const uint64_t *n) { return coghammer_write_enr_request(p[0], len[0], n[0]); }
+static uint64_t write_enr_response(uint8_t **p, const size_t *len, const uint64_t *n) {
+    (void)n;
+    return coghammer_write_enr_response(p[0], len[0], p[1], len[1], p[2], len[2]);
+}
+static uint64_t join(uint8_t **p, const size_t *len, const uint64_t *n) {
+    (void)n;
+    return coghammer_join(p[0], len[0], p[1], len[1], p[2], len[2]);
+}
+static uint64_t keccak256(uint8_t **p, const size_t *len, const uint64_t *n) {
+    (void)n;
+    coghammer_keccak256(p[0], len[0], p[1]);
+    return 0;
+}
+
+// ---- a table, and nodes around it
+
+// Each byte string has one byte more, to be lent too long.
+typedef struct {
+    uint8_t key[65], address[17], hash[33];
+    size_t len;
+    uint16_t udp;
+} peer;
+
+static peer peers[PEERS];
+static uint8_t own[65], table[MOST], next_table[MOST], any_table[MOST];
+static size_t size;
+static uint64_t now;
+static const uint64_t unix_time = 1700000000;
+static coghammer_counters counters, next_counters;
+
+// A length that is right as a rule.
+static size_t about(size_t len) { return chance(95) ? len : below(2) ? below(len + 1) : len + 1; }
+
+static void fresh_table(void) {
+    static const size_t counts[] = {1, 1, 1, 2, 3, 16, 16, 17, 256};
+    size_t buckets = counts[below(9)];
+    fill(own, 65);
+    for (int i = 0; i < PEERS; i++) {
+        fill((uint8_t *)&peers[i], sizeof peers[i]);
+        peers[i].len = below(2) ? 4 : 16;
+    }
+    if (chance(50)) memcpy(peers[0].key, own, 65);
+    size = COGHAMMER_TABLE_SIZE(buckets);
+    now = chance(10) ? UINT64_MAX - below(100000) : any_size() >> 1;
+    // refused as a rule if a length or the count is off
+    size_t lent_size = chance(80) ? size : below(MOST), key = about(64), count = chance(90) ? buckets : any_size();
+    fill(table, 1000);
+    uint64_t number = call(init, (lent[6]){{table, lent_size, next_table}, {own, key, NULL}}, (uint64_t[]){count});
+    check(number == 0 || number == 1 || number == 5, "init gave another number");
+    if (number) check(memcmp(table, next_table, lent_size) == 0, "a refused init wrote");
+    number = call(init, (lent[6]){{table, size, next_table}, {own, 64, NULL}}, (uint64_t[]){buckets});
+    check(number == 0, "a fresh table was refused");
+    memcpy(table, next_table, size);
+}
+
+// A counted call raises one count, and where it is refused changes nothing else.
+static void counted(uint64_t code, const uint8_t *before, size_t len) {
+    uint8_t number = COGHAMMER_NUMBER(code);
+    check(number < 19, "a number that no counted call gives");
+    for (int i = 0; i < 22; i++) {
+        uint32_t wanted = counters.counts[i] + (i == number && counters.counts[i] != UINT32_MAX);
+        check(next_counters.counts[i] == wanted, "the counters are wrong");
+    }
+    counters = next_counters;
+    reached[number]++;
+    if (number) check(COGHAMMER_VALUE(code) == 0 && memcmp(before, next_table, len) == 0, "a refused call wrote to the table");
+}
+
+static uint64_t later(void) {
+    static const uint64_t steps[] = {0, 0, 1, 20, 499, 500, 501, 43200000, 43200001};
+    uint64_t step = steps[chance(90) ? below(4) : below(9)];
+    if (chance(2)) return now - (now > 0);
+    return now > UINT64_MAX - step ? UINT64_MAX : now + step;
+}
+
+// ---- datagrams
+
+static uint8_t body[LONGEST], wire[LONGEST + 1];
+static size_t wire_len;
+
+// A record, or something that isn't one.
+static size_t any_record(uint8_t record[302]) {
+    size_t inside = below(4) ? below(50) : below(300);
+    size_t at = inside < 56 ? 1 : inside < 256 ? 2 : 3;
+    fill(record, 302);
+    record[0] = (uint8_t)(inside < 56 ? 0xc0 + inside : inside < 256 ? 0xf8 : 0xf9);
+    if (at == 2) record[1] = (uint8_t)inside;
+    if (at == 3) record[1] = (uint8_t)(inside >> 8), record[2] = (uint8_t)inside;
+    size_t whole = at + inside;
+    return chance(90) ? (whole < 302 ? whole : 302) : below(302);
+}
+
+static size_t any_nodes(uint8_t *nodes) {
+    size_t count = below(18);
+    fill(nodes, count * PACKED);
+    for (size_t i = 0; i < count; i++) nodes[i * PACKED] = chance(97) ? (below(2) ? 4 : 16) : (uint8_t)any();
+    return chance(95) ? count * PACKED : below(count * PACKED + 1);
+}
+
+// Writes a body of a type into a room; the code.
+static uint64_t write_body(unsigned type, size_t space, uint64_t expiration, const peer *to) {
+    static uint8_t nodes[18 * PACKED], record[302];
+    lent buf = {body, space, body};
+    uint64_t n[] = {expiration, any(), any_size(), any()};
+    lent address = {to->address, about(to->len), NULL}, hash = {to->hash, about(32), NULL};
+    switch (type) {
+    case 1: return call(write_ping, (lent[6]){buf, {peers[below(PEERS)].address, about(4), NULL}, address}, n);
+    case 2: return call(write_pong, (lent[6]){buf, address, hash}, n);
+    case 3: return call(write_find_node, (lent[6]){buf, {own, about(64), NULL}}, n);
+    case 4: return call(write_neighbors, (lent[6]){buf, {nodes, any_nodes(nodes), NULL}}, n);
+    case 5: return call(write_enr_request, (lent[6]){buf}, n);
+    default: return call(write_enr_response, (lent[6]){buf, hash, {record, any_record(record), NULL}}, n);
+    }
+}
+
+// The datagram of a body that was written; none where it wasn't.
+static bool make_datagram(unsigned type, const peer *to) {
+    uint8_t signature[66];
+    fill(signature, 66);
+    uint64_t expiration = chance(90) ? unix_time + below(3) : any_size();
+    fill(body, LARGEST);
+    uint64_t code = write_body(type, LARGEST, expiration, to);
+    check(COGHAMMER_NUMBER(code) == 0 || COGHAMMER_NUMBER(code) == 20, "a writer gave another number in a large room");
+    if (COGHAMMER_NUMBER(code)) return false;
+    code = call(join, (lent[6]){{wire, LARGEST, wire}, {signature, about(65), NULL}, {body, COGHAMMER_VALUE(code), NULL}}, NULL);
+    wire_len = COGHAMMER_VALUE(code);
+    return COGHAMMER_NUMBER(code) == 0;
+}
+
+static void right_hash(void) {
+    uint8_t hash[32];
+    if (wire_len < 32) return;
+    call(keccak256, (lent[6]){{wire + 32, wire_len - 32, NULL}, {hash, 32, hash}}, NULL);
+    memcpy(wire, hash, 32);
+}
+
+// Changes bytes of the datagram, mostly behind the signature, and mostly mends the hash.
+static void mutate_datagram(void) {
+    static const uint8_t nasty[] = {0x00, 0x01, 0x7f, 0x80, 0x81, 0xa0, 0xb7, 0xb8, 0xb9, 0xbf, 0xc0, 0xc1, 0xf7, 0xf8, 0xf9, 0xff};
+    for (size_t turns = below(4); turns; turns--) {
+        if (wire_len == 0) break;
+        size_t at = wire_len > 98 && chance(90) ? 97 + below(wire_len - 97) : below(wire_len);
+        if (chance(50) && wire_len > 110) at = 98 + below(12);
+        wire[at] = chance(60) ? nasty[below(16)] : (uint8_t)any();
+    }
+    if (chance(10)) wire_len = below(wire_len + 1);
+    if (chance(5)) {
+        size_t more = below(LONGEST - wire_len);
+        fill(wire + wire_len, more);
+        wire_len += more;
+    }
+    if (chance(85)) right_hash();
+}
+
+// The fields of any datagram: what they name lies inside it.
+static void read_datagram(void) {
+    uint64_t fields[COGHAMMER_FIELDS], before[COGHAMMER_FIELDS];
+    fill((uint8_t *)before, sizeof before);
+    memcpy(fields, before, sizeof fields);
+    uint64_t number = call(packet, (lent[6]){{wire, wire_len, NULL}, {before, sizeof before, fields}}, NULL);
+    check(number == 0 || (number >= 8 && number <= 10), "packet gave another number");
+    if (number) {
+        check(memcmp(fields, before, sizeof fields) == 0, "a refused packet wrote fields");
+        return;
+    }
+    static const int spans[] = {COGHAMMER_FROM_START, COGHAMMER_TO_START, COGHAMMER_HASH_START, COGHAMMER_TARGET_START, COGHAMMER_NODES_START,
+                                COGHAMMER_RECORD_START};
+    for (int i = 0; i < 6; i++) check(fields[spans[i]] <= wire_len && fields[spans[i] + 1] <= wire_len - fields[spans[i]], "a field lies outside");
+    check(fields[COGHAMMER_TYPE] >= 1 && fields[COGHAMMER_TYPE] <= 6, "a type that isn't there");
+    if (fields[COGHAMMER_TYPE] != 4) return;
+    uint64_t n[] = {fields[COGHAMMER_NODES_START], fields[COGHAMMER_NODES_LEN], 0};
+    uint64_t count = call(node_count, (lent[6]){{wire, wire_len, NULL}}, n);
+    if (wire_len <= LARGEST) check(count <= 15, "a Neighbors of more than 15 nodes");
+    for (n[2] = 0; n[2] <= count; n[2]++) {
+        uint8_t key[64], address[16];
+        uint64_t numbers[3];
+        fill(key, 64), fill(address, 16), fill((uint8_t *)numbers, 24);
+        call(node_at, (lent[6]){{wire, wire_len, NULL}, {key, 64, key}, {address, 16, address}, {numbers, 24, numbers}}, n);
+        bool right = n[2] < count ? numbers[0] == 4 || numbers[0] == 16 : numbers[0] == 0;
+        check(right && numbers[1] <= 65535 && numbers[2] <= 65535, "a node that can't be");
+    }
+}
+
+// Nodes by a start and a length that no packet gave.
+static void any_span(void) {
+    uint8_t key[64], address[16];
+    uint64_t numbers[3], n[] = {any_size(), any_size(), any_size()};
+    if (chance(70)) n[0] = below(wire_len + 2), n[1] = below(wire_len + 2), n[2] = below(4);
+    fill(key, 64), fill(address, 16), fill((uint8_t *)numbers, 24);
+    call(node_count, (lent[6]){{wire, wire_len, NULL}}, n);
+    call(node_at, (lent[6]){{wire, wire_len, NULL}, {key, 64, key}, {address, 16, address}, {numbers, 24, numbers}}, n);
+}
+
+// Every room up to what a value needs.
+static void rooms(unsigned type, const peer *to) {
+    uint64_t start = state, expiration = any_size();
+    uint64_t code = write_body(type, LARGEST, expiration, to);
+    size_t needed = COGHAMMER_NUMBER(code) ? 8 : COGHAMMER_VALUE(code);
+    for (size_t space = 0; space <= needed; space += 1 + below(1 + needed / 40)) {
+        static uint8_t before[LARGEST];
+        uint64_t kept = state;
+        memset(body, 0x5a, LARGEST);
+        memcpy(before, body, LARGEST);
+        state = start; // the same value
+        (void)any_size();
+        uint64_t again = write_body(type, space, expiration, to);
+        state = kept + space;
+        if (COGHAMMER_NUMBER(code)) check(again == code, "a value that can't be written was");
+        else if (space < needed) check(again == 19, "a room that is too short was taken");
+        size_t written = COGHAMMER_NUMBER(again) ? 0 : needed;
+        check(memcmp(body + written, before + written, LARGEST - written) == 0, "bytes past what is written changed");
+    }
+}
+
+// ---- calls on tables
+
+static uint64_t receive(uint8_t *memory, size_t len, const peer *from, uint64_t clock) {
+    return call(datagram, (lent[6]){{&counters, sizeof counters, &next_counters}, {memory, len, next_table},
+                                    {from->address, about(from->len), NULL}, {from->key, about(64), NULL}, {wire, wire_len, NULL}},
+                (uint64_t[]){clock, chance(95) ? unix_time : any_size(), from->udp});
+}
+
+static uint64_t record_ping(uint8_t *memory, size_t len, peer *to, uint64_t clock) {
+    uint8_t hash[33];
+    fill(hash, 33);
+    uint64_t number = call(ping_sent, (lent[6]){{&counters, sizeof counters, &next_counters}, {memory, len, next_table}, {to->key, about(64), NULL},
+                                                {to->address, about(to->len), NULL}, {hash, about(32), NULL}},
+                           (uint64_t[]){clock, to->udp ^ chance(3), any()});
+    if (number == 0) memcpy(to->hash, hash, 33); // its pong names this one
+    return number;
+}
+
+static void find_closest(const uint8_t *memory, size_t len) {
+    static coghammer_node before[18], list[18];
+    size_t count = chance(80) ? 16 : below(18);
+    fill((uint8_t *)before, sizeof before);
+    uint64_t code = call(closest, (lent[6]){{before, count * sizeof before[0], list}, {memory, len, NULL}, {peers[0].key, about(64), NULL}}, NULL);
+    uint8_t number = COGHAMMER_NUMBER(code);
+    size_t found = COGHAMMER_VALUE(code);
+    check(number == 0 || number == 1 || number == 5 || number == 19, "closest gave another number");
+    check(found <= 16 && (number == 0 || found == 0) && (number || count >= 16), "closest found too many");
+    check(memcmp(before + found, list + found, (count - found) * sizeof before[0]) == 0, "records after the count changed");
+}
+
+static void find_head(const uint8_t *memory, size_t len, const peer *of) {
+    uint8_t key[64], address[16], kept[64];
+    uint64_t numbers[5];
+    fill(key, 64), fill(address, 16), fill((uint8_t *)numbers, 40);
+    memcpy(kept, key, 64);
+    lent of_key = {of->key, about(64), NULL};
+    uint64_t number = call(head, (lent[6]){{memory, len, NULL}, of_key, {key, 64, key}, {address, 16, address}, {numbers, 40, numbers}}, NULL);
+    check(number == 0 || number == 1 || number == 5 || number == 7 || number == 12, "head gave another number");
+    if (number) check(memcmp(kept, key, 64) == 0, "a refused head wrote");
+}
+
+// One call on a memory; whether it was accepted.
+static bool step(uint8_t *memory, size_t len, uint64_t clock) {
+    peer *p = &peers[below(PEERS)];
+    uint64_t code;
+    switch (below(8)) {
+    case 0: code = call(sweep, (lent[6]){{&counters, sizeof counters, &next_counters}, {memory, len, next_table}}, (uint64_t[]){clock}); break;
+    case 1:
+    case 2: code = record_ping(memory, len, p, clock); break;
+    case 3: find_closest(memory, len); return false;
+    case 4: find_head(memory, len, p); return false;
+    default:
+        if (!make_datagram((unsigned)(chance(50) ? 2 : 1 + below(6)), p)) return false;
+        if (chance(30)) mutate_datagram();
+        read_datagram();
+        code = receive(memory, len, p, clock);
+    }
+    counted(code, memory, len);
+    return COGHAMMER_NUMBER(code) == 0;
+}
+
+// A sound table goes on; it stays sound.
+static void sound_step(void) {
+    uint64_t clock = later();
+    if (!step(table, size, clock)) return;
+    memcpy(table, next_table, size);
+    now = clock;
+    if (!chance(5)) return;
+    uint64_t code = call(sweep, (lent[6]){{&counters, sizeof counters, &next_counters}, {table, size, next_table}}, (uint64_t[]){now});
+    check(code == 0, "an accepted call left a table that isn't sound");
+    counted(code, table, size);
+    memcpy(table, next_table, size);
+}
+
+// The same calls on a table with some bytes changed, mostly where a count, a flag or a time stands, or of another length.
+static void mutated_step(void) {
+    static const size_t places[] = {0, 64, 68, 85, 93, 101, 102, 110};
+    size_t len = chance(90) ? size : below(MOST), bucket = size - BUCKET; // the last one has the most nodes
+    memcpy(any_table, table, MOST);
+    for (size_t turns = 1 + below(3); turns; turns--) {
+        size_t entry = bucket + 2 + below(20) * ENTRY;
+        size_t at = chance(20) ? below(48) : chance(30) ? bucket + below(2) : chance(60) ? entry + places[below(8)] : below(size);
+        any_table[at] = chance(50) ? (uint8_t)any() : (uint8_t)(any_table[at] + 1);
+    }
+    step(any_table, len, later());
+}
+
+static void random_step(void) {
+    size_t len = chance(50) ? size : below(MOST > 20000 ? 20000 : MOST);
+    fill(any_table, len);
+    if (chance(50) && len >= 48) memcpy(any_table, table, len < HEADER ? len : HEADER);
+    step(any_table, len, any_size());
+}
+
+static void small_calls(void) {
+    uint8_t hash[32];
+    fill(wire, LONGEST);
+    wire_len = below(LONGEST);
+    call(keccak256, (lent[6]){{wire, wire_len, NULL}, {hash, 32, hash}}, NULL);
+    read_datagram();
+    if (chance(30) && make_datagram(4, &peers[0])) any_span();
+    if (chance(5)) {
+        call(clear, (lent[6]){{&counters, sizeof counters, &counters}}, NULL);
+        for (int i = 0; i < 22; i++) check(counters.counts[i] == 0, "a count wasn't cleared");
+        if (chance(20)) memset(&counters, 0xff, sizeof counters);
+    }
+    rooms(1 + (unsigned)below(6), &peers[below(PEERS)]);
+}
+
+int main(int argc, char **argv) {
+    double seconds = argc > 1 ? atof(argv[1]) : 20;
+    seed = argc > 2 ? strtoull(argv[2], NULL, 10) : 1;
+    state = seed;
+    make_pages();
+    fill(table, MOST);
+    struct timespec start, t;
+    clock_gettime(CLOCK_MONOTONIC, &start);
+    unsigned tables = 0;
+    do {
+        fresh_table();
+        tables++;
+        for (size_t steps = size > 100000 ? 30 : 400; steps; steps--) {
+            unsigned what = (unsigned)below(100);
+            if (what < 75) sound_step();
+            else if (what < 88) mutated_step();
+            else if (what < 93) random_step();
+            else small_calls();
+        }
+        clock_gettime(CLOCK_MONOTONIC, &t);
+    } while ((double)(t.tv_sec - start.tv_sec) + (double)(t.tv_nsec - start.tv_nsec) / 1e9 < seconds);
+    printf("counted calls by answer:");
+    for (int i = 0; i < 19; i++) printf(" %d: %" PRIu64 "%s", i, reached[i], i < 18 ? "," : "\n");
+    printf("seed %" PRIu64 ": %" PRIu64 " calls on %u tables, nothing failed\n", seed, calls, tables);
+    return 0;
+}
