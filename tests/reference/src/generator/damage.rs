@@ -12,8 +12,19 @@ pub struct Store {
     pub bytes: Vec<u8>,
 }
 
-#[derive(Clone, Copy, Debug, PartialEq, Eq, PartialOrd, Ord)]
-pub enum Kind {
+/// The kinds, and all of them in a list.
+macro_rules! kinds {
+    ($($kind:ident,)*) => {
+        #[derive(Clone, Copy, Debug, PartialEq, Eq, PartialOrd, Ord)]
+        pub enum Kind {
+            $($kind,)*
+        }
+
+        pub const KINDS: [Kind; [$(Kind::$kind,)*].len()] = [$(Kind::$kind,)*];
+    };
+}
+
+kinds! {
     NoBuckets,
     TooManyBuckets,
     OneBucketMore,
@@ -47,39 +58,6 @@ pub enum Kind {
 }
 
 use Kind::*;
-
-pub const KINDS: [Kind; 30] = [
-    NoBuckets,
-    TooManyBuckets,
-    OneBucketMore,
-    OneBucketLess,
-    HeaderByte,
-    ClockBeforeATime,
-    AnotherOwnHash,
-    SeventeenEntries,
-    FiveReplacements,
-    OneEntryMore,
-    OneEntryLess,
-    OneReplacementMore,
-    OneReplacementLess,
-    FreeEntryByte,
-    FreeReplacementByte,
-    AddressLength,
-    ByteBehindAddress,
-    ShortenedAddress,
-    ProofFlag,
-    TimeOfNoProof,
-    PingFlag,
-    TimeOfQuietPing,
-    SeenAfterClock,
-    ProofAfterClock,
-    PingAfterClock,
-    UnprovedEntry,
-    QuietUnprovedReplacement,
-    ProvedReplacementWithFreeEntry,
-    KeyTwice,
-    KeyOfAnotherBucket,
-];
 
 /// An entry or a replacement of the bucket that is damaged.
 struct Place<'a> {
