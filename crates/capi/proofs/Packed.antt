@@ -18,8 +18,8 @@ use Rattle.entry.specs.Layout.{decodeEndpoint}
 use Rattle.entry.proofs.Laws.{decode-endpoint}
 use Rattle.table_model.specs.Layout.{tabulate}
 use Rattle.table_model.proofs.Records.{length-tabulate}
-use Rattle.packet_items.specs.Items.{neighborsItems}
-use Rattle.packet_parts.specs.Parts.{body, nodeItem, nodesOf, haveAddresses, writableNodes, written, writtenIn}
+use Rattle.packet_items.specs.Items.{neighborsItems, nodeItem}
+use Rattle.packet_parts.specs.Parts.{body, nodesOf, haveAddresses, writableNodes, written, writtenIn}
 use Rattle.packet_parts.specs.declared.NodeList.{NodeList}
 use Rattle.packet_writer.specs.Writers.{neighborsBody}
 use Rattle.packet_laws.specs.Bodies.{NodeFits, NodesFit, WrittenBody, neighbors}

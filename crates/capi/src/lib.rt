@@ -11,7 +11,7 @@ ghost use Rattle.calls_model.specs.Calls.{answerOn, bytesAfter};
 ghost use Rattle.calls_model.specs.Reading.{reading};
 ghost use Rattle.calls.specs.Answer.{received};
 ghost use Rattle.calls.specs.Steps.{SoundAt};
-ghost use Rattle.packets.specs.Spans as spans;
+ghost use Rattle.spans.specs.Spans as spans;
 ghost use Rattle.wire.specs.Datagram.{packetIn};
 ghost use Rattle.packet_parts.specs.Parts.{written, writtenIn};
 ghost use Rattle.packet_writer.specs.Writers.{canPing, pingBody, canPong, pongBody, canFindNode, findNodeBody, neighborsBody, enrRequestBody, canEnrResponse, enrResponseBody};
@@ -19,7 +19,7 @@ ghost use Rattle.packet_join.specs.Join as joining;
 ghost use Rattle.table.specs.Init.{initAnswer, initTable};
 ghost use Rattle.counters.specs.Counters.{raised, cleared};
 ghost use Rattle.closest_call.specs.Closest.{listed, listAfter};
-ghost use Rattle.discv4.specs.Numbers.{writtenSize};
+ghost use Rattle.packet_parts.specs.Parts.{writtenSize};
 ghost use Rattle.capi.specs.Codes as codes;
 ghost use Rattle.capi.specs.Codes.{numberIn, dueValue, standingValue, outcomeCode, receivedCode, listedCode, writtenCode, seqOf};
 ghost use Rattle.capi.specs.Fields.{seqPresent, seqValue, flatPing, flatPong, flatFindNode, flatNeighbors, flatEnrRequest, flatEnrResponse, readNumber, fieldsAfter, nodeNumbers};
@@ -47,7 +47,7 @@ use packets::Neighbors;
 use packets::Packet;
 use packets::Ping;
 use packets::Pong;
-use packets::Span;
+use spans::Span;
 use table::Touched;
 
 // ---- codes

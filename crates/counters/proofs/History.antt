@@ -9,7 +9,7 @@ use lib.Dec.{ltb, eqb}
 use lib.ListN.{length, getD, set, replicate, length-set, length-replicate}
 use lib.Seq.{getD-set-same, getD-set-other}
 use Rattle.counters.specs.declared.Counters.{Counters}
-use Rattle.counters.specs.Counters.{cleared, oneMore, raised}
+use Rattle.counters.specs.Counters.{cleared, oneMore, raised, countOf}
 use Rattle.counters.specs.History.{counted, timesOf, capped, CountsAreHistory}
 
 byTest : {P : Type 0} (b : Bool) → (b ≡ true → P) → (b ≡ false → P) → P
@@ -56,7 +56,11 @@ zeros zero k = refl
 zeros (suc n) zero = refl
 zeros (suc n) (suc k) = zeros n k
 
+count-read : (c : Counters) (n : ℕ) → n < 22 → countOf c n ≡ getD (c .counts) n 0
+unfolding countOf
+count-read c n h = simp (lt-ltb n 22 h)
+
 pub counts-are-history : (numbers : List ℕ) → CountsAreHistory numbers
 counts-are-history numbers n h =
     let sum : 0 + timesOf n numbers ≡ timesOf n numbers = omega arith in
-    from n h numbers cleared 0 (length-replicate {A = ℕ} 22 0) (zeros 22 n) ∙ ap capped sum
+    count-read (counted cleared numbers) n h ∙ from n h numbers cleared 0 (length-replicate {A = ℕ} 22 0) (zeros 22 n) ∙ ap capped sum

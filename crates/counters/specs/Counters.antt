@@ -17,3 +17,7 @@ oneMore n = cond (ltb n 4294967295) (n + 1) n
 unfoldable pub raised : Counters → ℕ → Counters
 raised c number =
     cond (ltb number 22) (record { counts = set (c .counts) number (oneMore (getD (c .counts) number 0)) }) c
+
+-- "one count for each number"; a number from 22 on has none
+unfoldable pub countOf : Counters → ℕ → ℕ
+countOf c number = cond (ltb number 22) (getD (c .counts) number 0) 0

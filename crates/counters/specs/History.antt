@@ -4,9 +4,8 @@ use mathlib.Core.Bool.{cond}
 use mathlib.Core.List.{List, [], _∷_}
 use Prim.Native.Nat.{ℕ, suc, _<_}
 use lib.Dec.{eqb, ltb}
-use lib.ListN.{getD}
 use Rattle.counters.specs.declared.Counters.{Counters}
-use Rattle.counters.specs.Counters.{raised, cleared}
+use Rattle.counters.specs.Counters.{raised, cleared, countOf}
 
 -- the counters after calls that gave these answer numbers, in order
 abbrev pub counted : Counters → List ℕ → Counters
@@ -24,4 +23,4 @@ capped n = cond (ltb n 4294967295) n 4294967295
 
 -- every count after a list of calls since clearing
 abbrev pub CountsAreHistory : List ℕ → Type 0
-CountsAreHistory numbers = (n : ℕ) → n < 22 → getD (counted cleared numbers .counts) n 0 ≡ capped (timesOf n numbers)
+CountsAreHistory numbers = (n : ℕ) → n < 22 → countOf (counted cleared numbers) n ≡ capped (timesOf n numbers)

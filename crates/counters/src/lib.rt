@@ -1,6 +1,7 @@
 // The counters: one count for each answer number, lent by the caller and counted up in place.
 ghost use mathlib.Core.Path.{_≡_};
-ghost use Rattle.counters.specs.Counters.{raised, cleared};
+ghost use Rattle.counters.specs.Counters.{raised, countOf};
+ghost use Rattle.counters.specs.Counters as spec;
 
 // Document 01's tally: the calls since clearing that gave each answer number from 0 to 21.
 #[repr(C)]
@@ -8,13 +9,22 @@ pub struct Counters {
     pub counts: [u32; 22],
 }
 
-impl Counters {
-    // Every count 0.
-    pub fn cleared() -> Counters
-        ensures { λ r. ⌜ r ≡ cleared ⌝ }
-    {
-        Counters { counts: [0; 22] }
+// Counters with every count 0: assign them to clear lent ones.
+pub fn cleared() -> Counters
+    ensures { λ r. ⌜ r ≡ spec.cleared ⌝ }
+{
+    Counters { counts: [0; 22] }
+}
+
+// The count of an answer number; 0 for a number that has none.
+pub fn count_of(counters: Counters, number: u8) -> u32
+    ensures { λ r. ⌜ r ≡ countOf counters number ⌝ }
+{
+    let at = number as usize;
+    if 22 <= at {
+        return 0;
     }
+    counters.counts[at]
 }
 
 // The counters with the count of one answer number raised by one. A count of 4,294,967,295 stays, and so does every count where

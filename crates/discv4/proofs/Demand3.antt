@@ -5,9 +5,9 @@ use mathlib.Core.Path.{_≡_, refl, sym, ap, _∙_}
 use mathlib.Core.Bool.{Bool, true, false, cond, not, _&&_}
 use mathlib.Core.List.{List, [], _∷_}
 use lib.Dec.{eqb, leb}
-use lib.ListN.{length, getD}
+use lib.ListN.{length}
 use native.Mathlib.Omega.{arith}
-use borrow.Author.Tests.{lt-ltb, leb-true}
+use borrow.Author.Tests.{leb-true}
 use Rattle.octets.specs.Octets.{Bytes}
 use Rattle.lists.specs.Lists.{All}
 use Rattle.lists.proofs.Laws.{and-left, and-right}
@@ -23,10 +23,9 @@ use Rattle.calls_model.proofs.Demand3.{demand3-of-calls}
 use Rattle.calls_model.proofs.AnyBytes.{on-any-bytes}
 use Rattle.calls.proofs.Answered.{answer-number}
 use Rattle.counters.specs.declared.Counters.{Counters}
-use Rattle.counters.specs.Counters.{raised, cleared}
+use Rattle.counters.specs.Counters.{raised, cleared, countOf}
 use Rattle.counters.specs.History.{counted, timesOf, capped}
 use Rattle.counters.proofs.History.{counts-are-history}
-use Rattle.discv4.specs.Numbers.{countOf}
 use Rattle.discv4.specs.Demand3.{answerNumber, tableAfter, isCounted, countersAfter, countersAfterAll, countedAnswers, RunKeeps, LibraryKeeps}
 
 -- ---- the calls' definitions are those of crate calls_model
@@ -64,15 +63,9 @@ counters-counted k s (pingSent now key address udp tcp hash ∷ cs) =
 counters-counted k s (sweep now ∷ cs) = counters-counted (countersAfter k s (sweep now)) (tableAfter s (sweep now)) cs
 counters-counted k s (closest target room ∷ cs) = counters-counted k s cs
 
-count-read : (k : Counters) (n : ℕ) → n < 22 → countOf k n ≡ getD (k .counts) n 0
-unfolding countOf
-count-read k n h = simp (lt-ltb n 22 h)
-
 counts-told : (s : Bytes) (cs : List Call) (n : ℕ) → n < 22 → countOf (countersAfterAll cleared s cs) n ≡ capped (timesOf n (countedAnswers s cs))
 counts-told s cs n h =
-    count-read (countersAfterAll cleared s cs) n h
-    ∙ ap (λ (k : Counters). getD (k .counts) n 0) (counters-counted cleared s cs)
-    ∙ counts-are-history (countedAnswers s cs) n h
+    ap (λ (k : Counters). countOf k n) (counters-counted cleared s cs) ∙ counts-are-history (countedAnswers s cs) n h
 
 -- ---- the claim
 

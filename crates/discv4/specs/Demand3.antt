@@ -17,9 +17,8 @@ use Rattle.calls_model.specs.Reading.{reading}
 use Rattle.calls_model.specs.Demand3.{encode}
 use Rattle.calls.specs.Answer.{received, numberOf}
 use Rattle.counters.specs.declared.Counters.{Counters}
-use Rattle.counters.specs.Counters.{raised, cleared}
+use Rattle.counters.specs.Counters.{raised, cleared, countOf}
 use Rattle.counters.specs.History.{timesOf, capped}
-use Rattle.discv4.specs.Numbers.{countOf}
 use Rattle.closest_call.specs.Closest.{listed}
 
 -- the answer number of each call on a table's bytes

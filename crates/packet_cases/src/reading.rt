@@ -12,7 +12,7 @@ use packets::Packet;
 use packets::Ping;
 use packets::Pong;
 use packets::Recipient;
-use packets::Span;
+use spans::Span;
 
 fn print_enr_seq(e: EnrSeq) {
     match e {

@@ -14,13 +14,13 @@ use Rattle.octets.proofs.Laws.{same-refl}
 use Rattle.keccak.specs.Sponge.{keccak256}
 use Rattle.keccak.proofs.Laws.{keccak256-length}
 use Rattle.rlp.specs.Encoding.{Item, encode, encodes}
-use Rattle.packet_items.specs.Items.{dataOf, endpoint, pingItems, pongItems, findNodeItems, neighborsItems, enrRequestItems, enrResponseItems, enrSeqItems}
+use Rattle.packet_items.specs.Items.{dataOf, endpoint, pingItems, pongItems, findNodeItems, neighborsItems, enrRequestItems, enrResponseItems, enrSeqItems, addressOf, nodeItem}
 use Rattle.packet_items.specs.declared.EnrSeq.{EnrSeq}
 use Rattle.packet_items.specs.declared.EnrSeq.the-variants.{Absent, Present}
 use Rattle.schema.specs.Shapes.{Begins}
 use Rattle.packets.specs.Packets.{typeOf, readAs}
 use Rattle.packets.specs.declared.PacketType.the-variants as type
-use Rattle.packets.specs.Accepted.{trailing, SeqFits, addressOf, nodeItem, NodesGood, PingFields, PongFields, FindNodeFields, NeighborsFields, EnrRequestFields, EnrResponseFields}
+use Rattle.packets.specs.Accepted.{trailing, SeqFits, NodesGood, PingFields, PongFields, FindNodeFields, NeighborsFields, EnrRequestFields, EnrResponseFields}
 use Rattle.packets.proofs.Inversion.{ping-accepted, pong-accepted, find-node-accepted, enr-request-accepted, enr-response-accepted}
 use Rattle.packets.proofs.NodeLists.{neighbors-accepted}
 use Rattle.wire.specs.Datagram.{isSized, hashMatches, signatureOf, packetIn}

@@ -13,13 +13,12 @@ use Rattle.octets.specs.Octets.{Bytes}
 use Rattle.octets.proofs.Laws.{store-eq}
 use Rattle.entry.specs.declared.Node.{Node}
 use Rattle.rlp.specs.Encoding.{Item}
-use Rattle.packet_items.specs.Items.{node, neighborsItems}
+use Rattle.packet_items.specs.Items.{node, neighborsItems, addressOf, nodeItem}
 use Rattle.packet_items.specs.declared.EnrSeq.{EnrSeq}
 use Rattle.packet_items.specs.declared.EnrSeq.the-variants.{Absent, Present}
-use Rattle.packets.specs.Spans.{padded}
-use Rattle.packets.specs.Accepted.{SeqFits, addressOf, NodeGood, NodesGood}
-use Rattle.packets.specs.Accepted as read
-use Rattle.packet_parts.specs.Parts.{isAddress, isAddressSize, body, nodeItem, nodesOf, haveAddresses}
+use Rattle.spans.specs.Spans.{padded}
+use Rattle.packets.specs.Accepted.{SeqFits, NodeGood, NodesGood}
+use Rattle.packet_parts.specs.Parts.{isAddress, isAddressSize, body, nodesOf, haveAddresses}
 use Rattle.packet_parts.proofs.Tests.{and-left, and-right}
 use Rattle.packet_parts.proofs.Sizes.{address-size}
 use Rattle.packet_parts.proofs.Nodes.{few, addresses, address-length}
@@ -61,7 +60,7 @@ module _ (n : Node) (f : NodeFits n) (ok : isAddressSize (n .endpoint .len) ≡ 
         key-sized = f .key;
       }
 
-  same-item : read.nodeItem (padNode n) ≡ nodeItem n
+  same-item : nodeItem (padNode n) ≡ nodeItem n
   unfolding padNode
   same-item = ap (λ (a : Bytes). node a (n .endpoint .udp) (n .endpoint .tcp) (n .key)) same-address
 
@@ -72,7 +71,7 @@ all-good (n ∷ ns) f ok = (
   all-good ns (f .1) (and-right (isAddressSize (n .endpoint .len)) (haveAddresses ns) ok),
 )
 
-same-items : (ns : List Node) → NodesFit ns → haveAddresses ns ≡ true → map read.nodeItem (map padNode ns) ≡ map nodeItem ns
+same-items : (ns : List Node) → NodesFit ns → haveAddresses ns ≡ true → map nodeItem (map padNode ns) ≡ map nodeItem ns
 same-items [] f ok = refl
 same-items (n ∷ ns) f ok =
     let p = same-item n (f .0) (and-left (isAddressSize (n .endpoint .len)) (haveAddresses ns) ok) in

@@ -5,11 +5,11 @@ use mathlib.Core.Bool.{true}
 use mathlib.Core.List.{[], map}
 use lib.ListN.{length}
 use Rattle.octets.specs.Octets.{Bytes, Slice}
-use Rattle.packet_items.specs.Items.{neighborsItems}
+use Rattle.packet_items.specs.Items.{neighborsItems, nodeItem}
 use Rattle.schema.specs.Shapes.{IsEndpoint}
 use Rattle.packets.specs.declared.Packet.{Packet}
 use Rattle.packets.specs.declared.Packet.the-variants as packet
-use Rattle.packets.specs.Accepted.{SeqFits, PingFields, pingFields, PongFields, pongFields, FindNodeFields, findNodeFields, NeighborsFields, neighborsFields, NodesGood, nodeItem, EnrRequestFields, enrRequestFields, EnrResponseFields, enrResponseFields}
+use Rattle.packets.specs.Accepted.{SeqFits, PingFields, pingFields, PongFields, pongFields, FindNodeFields, findNodeFields, NeighborsFields, neighborsFields, NodesGood, EnrRequestFields, enrRequestFields, EnrResponseFields, enrResponseFields}
 use Rattle.wire.specs.Datagram.{isSized, hashMatches, signatureOf, packetIn}
 use Rattle.packet_parts.specs.Parts.{body}
 use Rattle.packet_writer.specs.Writers.{pingBody, pongBody, findNodeBody, enrRequestBody, canEnrResponse, enrResponseBody}

@@ -9,10 +9,11 @@ use lib.Seq.{length-take-le, drop-cons, getD-take}
 use lib.Dec.{leb}
 use borrow.Author.Tests.{leb-true, le-leb, lt-leb}
 use native.Mathlib.Numerals.{add-one}
+use Rattle.packet_items.specs.Items.{nodeItem}
 use Rattle.octets.specs.Octets.{Bytes}
 use Rattle.entry.specs.declared.Node.{Node}
 use Rattle.packet_parts.specs.declared.NodeList.{NodeList}
-use Rattle.packet_parts.specs.Parts.{isAddressSize, isAddress, nodeItem, nodesOf, haveAddresses, writableNodes}
+use Rattle.packet_parts.specs.Parts.{isAddressSize, isAddress, nodesOf, haveAddresses, writableNodes}
 use Rattle.rlp.specs.Encoding.{encode, encodes}
 use Rattle.packet_parts.proofs.Tests.{and-left, and-right}
 use Rattle.packet_parts.proofs.Sizes.{address-size}

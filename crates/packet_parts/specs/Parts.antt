@@ -6,7 +6,7 @@ use lib.Dec.{eqb, leb}
 use lib.ListN.{length, take}
 use Rattle.octets.specs.Octets.{Bytes, store}
 use Rattle.rlp.specs.Encoding.{Item, string}
-use Rattle.packet_items.specs.Items.{dataOf, uint, node, enrSeqItems}
+use Rattle.packet_items.specs.Items.{dataOf, uint, nodeItem, enrSeqItems}
 use Rattle.packet_items.specs.declared.EnrSeq.{EnrSeq}
 use Rattle.entry.specs.declared.Node.{Node}
 use Rattle.packet_parts.specs.declared.NodeList.{NodeList}
@@ -32,11 +32,6 @@ fields address udp tcp = string address ∷ uint udp ∷ uint tcp ∷ []
 abbrev pub lastItems : ℕ → EnrSeq → List Item
 lastItems expiration e = uint expiration ∷ enrSeqItems e
 
--- a node record as an item
-abbrev pub nodeItem : Node → Item
-nodeItem n =
-    node (take (n .endpoint .len) (n .endpoint .address)) (n .endpoint .udp) (n .endpoint .tcp) (n .key)
-
 abbrev pub nodesOf : NodeList → List Node
 nodesOf l = take (l .len) (l .nodes)
 
@@ -50,6 +45,18 @@ haveAddresses (n ∷ ns) = isAddressSize (n .endpoint .len) && haveAddresses ns
 -- at most 12 nodes, each with an address
 abbrev pub writableNodes : NodeList → Bool
 writableNodes l = leb (l .len) 12 && haveAddresses (nodesOf l)
+
+-- 19 "room shorter than a writable value needs", 20 "value can't be written"
+abbrev pub writtenNumber : Written → ℕ
+writtenNumber (Done size) = 0
+writtenNumber Short = 19
+writtenNumber Unwritable = 20
+
+-- the bytes that were written
+abbrev pub writtenSize : Written → ℕ
+writtenSize (Done size) = size
+writtenSize Short = 0
+writtenSize Unwritable = 0
 
 -- the answer of writing bytes at the start of a buffer, and what the buffer then holds; ok says that the value can be written
 unfoldable pub written : Bool → Bytes → Bytes → Written

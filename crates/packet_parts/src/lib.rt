@@ -6,8 +6,8 @@ ghost use Prim.Native.Nat.{_+_, _≤_, _<_, _^_};
 ghost use lib.ListN.{length};
 ghost use Rattle.rlp.specs.Encoding.{header, encode, encodes};
 ghost use Rattle.octets.specs.Octets.{store};
-ghost use Rattle.packet_items.specs.Items.{endpoint, node};
-ghost use Rattle.packet_parts.specs.Parts.{isAddress, isAddressSize, fields, lastItems, nodeItem, nodeItems, writableNodes};
+ghost use Rattle.packet_items.specs.Items.{endpoint, node, nodeItem};
+ghost use Rattle.packet_parts.specs.Parts.{isAddress, isAddressSize, fields, lastItems, nodeItems, writableNodes, writtenNumber, writtenSize};
 use entry::Node;
 use packet_items::EnrSeq;
 
@@ -19,6 +19,28 @@ pub enum Written {
     Short,
     // Answer 20: the value can't be written.
     Unwritable,
+}
+
+// The answer number of a write: 0, 19 or 20.
+pub fn written_number(written: Written) -> u8
+    ensures { λ r. ⌜ r ≡ writtenNumber written ⌝ }
+{
+    match written {
+        Written::Done(_) => 0,
+        Written::Short => 19,
+        Written::Unwritable => 20,
+    }
+}
+
+// How many bytes a write has written.
+pub fn written_size(written: Written) -> usize
+    ensures { λ r. ⌜ r ≡ writtenSize written ⌝ }
+{
+    match written {
+        Written::Done(size) => size,
+        Written::Short => 0,
+        Written::Unwritable => 0,
+    }
 }
 
 // The first `len` of `nodes`.

@@ -15,7 +15,7 @@ use Rattle.schema.specs.declared.Verdict.{Verdict}
 use Rattle.schema.specs.declared.Verdict.the-variants.{Good, Broken, Wrong}
 use Rattle.schema.proofs.Shapes.{AllLimited}
 use Rattle.schema.proofs.Accepted.{small-data, good-accepted, accepted-good}
-use Rattle.packets.specs.Spans.{bytesOf, spanOf}
+use Rattle.spans.specs.Spans.{bytesOf, spanOf}
 use Rattle.packets.specs.Packets.{schemaOf, requiredOf, isKnown, packetOf, answered, readAs}
 use Rattle.packets.specs.declared.PacketType.{PacketType}
 use Rattle.packets.specs.declared.PacketType.the-variants as type

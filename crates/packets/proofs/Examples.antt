@@ -5,7 +5,7 @@ use Rattle.octets.specs.Octets.{part, numberFrom}
 use Rattle.rlp.specs.Reading.{head, sized, long, strict, whole, count, uintOf}
 use Rattle.schema.specs.Payload.{itemsOf}
 use Rattle.schema.specs.Schema.{field}
-use Rattle.packets.specs.Spans.{spanOf, itemSpan, uintItem, portItem, enrSeqItem}
+use Rattle.spans.specs.Spans.{spanOf, itemSpan, uintItem, portItem, enrSeqItem}
 use Rattle.packets.specs.Packets.{typeOf, enrRequestOf, readAs, readData}
 use Rattle.packets.specs.declared.Packet.the-variants.{EnrRequest, Refused}
 

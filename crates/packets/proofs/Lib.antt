@@ -1,4 +1,3 @@
-pub mod Spans
 pub mod Made
 pub mod Values
 pub mod Accepted

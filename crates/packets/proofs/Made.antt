@@ -3,18 +3,17 @@ use Prim.Native.Nat.{ℕ, _+_}
 use mathlib.Core.Path.{_≡_, sym, ap, _∙_}
 use mathlib.Core.Bool.{true}
 use mathlib.Core.List.{List}
-use lib.ListN.{length, take, replicate}
-use Rattle.octets.specs.Octets.{Bytes, store}
+use lib.ListN.{length, take}
+use Rattle.octets.specs.Octets.{Bytes}
 use Rattle.schema.specs.Schema.{verdict}
 use Rattle.schema.specs.declared.Kind.{Kind}
 use Rattle.schema.specs.declared.Verdict.{Verdict}
 use Rattle.schema.specs.declared.Verdict.the-variants.{Good}
-use Rattle.packets.specs.Spans.{bytesOf, moved, spanOf, portItem, fitting, padded, nodeOf}
+use Rattle.spans.specs.Spans.{bytesOf, moved, spanOf, portItem}
 use Rattle.packets.specs.Packets.{senderOf, isKnown, schemaOf, requiredOf, packetOf, answered, readAs}
 use Rattle.packets.specs.declared.Packet.{Packet}
 use Rattle.packets.specs.declared.PacketType.{PacketType}
-use Rattle.packets.specs.declared.Span.{Span}
-use Rattle.packets.proofs.Spans.{payload-read}
+use Rattle.spans.specs.declared.Span.{Span}
 
 -- the endpoint that is item n
 module _ (base n : ℕ) (s : Bytes) (span : Span) (e : Bytes) (is : span ≡ spanOf n s) (bytes : e ≡ bytesOf s span) where
@@ -30,19 +29,6 @@ module _ (base n : ℕ) (s : Bytes) (span : Span) (e : Bytes) (is : span ≡ spa
       let pu = p ∙ ap (portItem 1) inside in
       let pt = q ∙ ap (portItem 2) inside in
       λ j. record { address = pa j; udp = pu j; tcp = pt j }
-
--- the node of a payload
-pub node-is : (p : Bytes) (span₀ span₃ : Span) (b₀ b₃ key address : Bytes) (len udp tcp : ℕ) → span₀ ≡ spanOf 0 p → b₀ ≡ bytesOf p span₀ → span₃ ≡ spanOf 3 p → b₃ ≡ bytesOf p span₃
-    → key ≡ store (replicate 64 0) 0 (fitting 64 b₃) → address ≡ store (replicate 16 0) 0 (fitting 16 b₀) → len ≡ length (fitting 16 b₀) → udp ≡ portItem 1 p → tcp ≡ portItem 2 p
-    → record { key = key; endpoint = record { len = len; address = address; udp = udp; tcp = tcp } } ≡ nodeOf p
-unfolding nodeOf padded
-node-is p span₀ span₃ b₀ b₃ key address len udp tcp s₀ e₀ s₃ e₃ k a l u t =
-    let r₀ = payload-read 0 p span₀ b₀ s₀ e₀ in
-    let r₃ = payload-read 3 p span₃ b₃ s₃ e₃ in
-    let pk = k ∙ ap (λ (b : Bytes). store (replicate 64 0) 0 (fitting 64 b)) r₃ in
-    let pa = a ∙ ap (λ (b : Bytes). store (replicate 16 0) 0 (fitting 16 b)) r₀ in
-    let pl = l ∙ ap (λ (b : Bytes). length (fitting 16 b)) r₀ in
-    λ i. record { key = pk i; endpoint = record { len = pl i; address = pa i; udp = u i; tcp = t i } }
 
 -- packet data that was read
 module _ (t : PacketType) (base : ℕ) (d : Bytes) (v : Verdict) (kinds : List Kind) (n r : ℕ) (ks : take (length (schemaOf t)) kinds ≡ schemaOf t) (cs : n ≡ length (schemaOf t)) (rs : r ≡ requiredOf t)

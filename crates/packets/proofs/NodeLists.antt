@@ -8,11 +8,11 @@ use lib.ListN.{length, length-append}
 use Rattle.octets.specs.Octets.{Bytes, Slice}
 use Rattle.rlp.specs.Encoding.{Item, list, encode, encodes, payloadOf, Small}
 use Rattle.rlp.proofs.Encoding.{encode-length, small-first}
-use Rattle.packet_items.specs.Items.{dataOf, uint, neighborsItems}
+use Rattle.packet_items.specs.Items.{dataOf, uint, neighborsItems, nodeItem}
 use Rattle.schema.specs.Shapes.{Shapes, Begins, Accepted}
-use Rattle.packets.specs.Spans.{nodesOf}
+use Rattle.spans.specs.Spans.{nodesOf}
 use Rattle.packets.specs.Packets.{schemaOf, neighborsOf, readAs}
-use Rattle.packets.specs.Accepted.{NeighborsFields, neighborsFields, nodeItem, NeighborsEncoded}
+use Rattle.packets.specs.Accepted.{NeighborsFields, neighborsFields, NeighborsEncoded}
 use Rattle.packets.specs.declared.PacketType.the-variants as type
 use Rattle.packets.specs.declared.Packet.the-variants as packet
 use Rattle.packets.specs.declared.Neighbors.{Neighbors}

@@ -16,10 +16,10 @@ use Rattle.packet_items.specs.declared.EnrSeq.the-variants.{Absent, Present}
 use Rattle.schema.specs.Payload.{itemsOf}
 use Rattle.schema.specs.Shapes.{IsEndpoint, Begins}
 use Rattle.schema.proofs.Payload.{items-item, items-encodes}
-use Rattle.packets.specs.Spans.{bytesOf, moved, spanOf, itemSpan, itemAt, valueOf, uintItem, portItem, enrSeqItem}
+use Rattle.spans.specs.Spans.{bytesOf, moved, spanOf, itemSpan, itemAt, valueOf, uintItem, portItem, enrSeqItem}
 use Rattle.packets.specs.Packets.{senderOf}
-use Rattle.packets.specs.declared.Span.{Span}
-use Rattle.packets.proofs.Spans.{bytes-in, span-bound, item-span-bound, span-payload}
+use Rattle.spans.specs.declared.Span.{Span}
+use Rattle.spans.proofs.Spans.{bytes-in, span-bound, item-span-bound, span-payload}
 
 -- s is the bytes of g from `at` on
 pub record Lies (g : Bytes) (at : ℕ) (s : Bytes) : Type 0 where

@@ -2,15 +2,15 @@
 use Prim.Native.Nat.{ℕ, _≤_, _<_, _^_}
 use mathlib.Core.Path.{_≡_}
 use mathlib.Core.List.{List, [], _∷_, map}
-use lib.ListN.{length, take}
+use lib.ListN.{length}
 use Rattle.octets.specs.Octets.{Bytes}
 use Rattle.rlp.specs.Encoding.{Item, list, encode}
-use Rattle.packet_items.specs.Items.{uint, endpoint, node, pingItems, pongItems, findNodeItems, neighborsItems, enrRequestItems, enrResponseItems}
+use Rattle.packet_items.specs.Items.{uint, endpoint, addressOf, nodeItem, pingItems, pongItems, findNodeItems, neighborsItems, enrRequestItems, enrResponseItems}
 use Rattle.packet_items.specs.declared.EnrSeq.{EnrSeq}
 use Rattle.packet_items.specs.declared.EnrSeq.the-variants.{Absent, Present}
 use Rattle.schema.specs.Shapes.{IsEndpoint, Begins}
 use Rattle.entry.specs.declared.Node.{Node}
-use Rattle.packets.specs.Spans.{bytesOf, padded, nodesOf}
+use Rattle.spans.specs.Spans.{bytesOf, padded, nodesOf}
 use Rattle.packets.specs.declared.Ping.{Ping}
 use Rattle.packets.specs.declared.Pong.{Pong}
 use Rattle.packets.specs.declared.FindNode.{FindNode}
@@ -117,12 +117,6 @@ abbrev pub neighborsFields : Bytes → Neighbors → NeighborsFields
 neighborsFields g p = record { nodes = nodesOf (bytesOf g (p .nodes)); expiration = p .expiration }
 
 -- the address of a node, which is padded with zeros
-abbrev pub addressOf : Node → Bytes
-addressOf n = take (n .endpoint .len) (n .endpoint .address)
-
-abbrev pub nodeItem : Node → Item
-nodeItem n = node (addressOf n) (n .endpoint .udp) (n .endpoint .tcp) (n .key)
-
 pub record NodeGood (n : Node) : Type 0 where
   pub good : IsEndpoint (addressOf n) (n .endpoint .udp) (n .endpoint .tcp)
   pub len : n .endpoint .len ≡ length (addressOf n)

@@ -2,24 +2,21 @@
 ghost use mathlib.Core.Path.{_≡_};
 ghost use Prim.Native.Nat.{_+_, _≤_, _<_, _^_};
 ghost use lib.ListN.{length, take};
-ghost use Rattle.octets.specs.Octets as octets;
-ghost use Rattle.packets.specs.Spans.{spanOf, itemSpan, uintItem, portItem, enrSeqItem, padded, fitting, nodeOf, nodesOf, nodeAt};
-ghost use Rattle.packets.specs.Spans as spans;
+ghost use Rattle.spans.specs.Spans.{spanOf};
+ghost use Rattle.spans.specs.Spans as spans;
 ghost use Rattle.packets.specs.Packets.{typeOf, schemaOf, requiredOf, senderOf, pingOf, pongOf, findNodeOf, neighborsOf, enrRequestOf, enrResponseOf, packetOf, readAs, readData};
 ghost use Rattle.packets.specs.Packets as spec;
-use entry::Endpoint;
-use entry::Node;
 use packet_items::EnrSeq;
-use rlp::Header;
-use rlp::Uint;
 use schema::Kind;
 use schema::Verdict;
-
-// Bytes of a datagram.
-pub struct Span {
-    pub start: usize,
-    pub len: usize,
-}
+use spans::Span;
+use spans::bytes_of;
+use spans::enr_seq_item;
+use spans::item_payload;
+use spans::item_span;
+use spans::moved;
+use spans::port_item;
+use spans::uint_item;
 
 // The endpoint `from`.
 pub struct Sender {
@@ -54,7 +51,7 @@ pub struct FindNode {
     pub expiration: u64,
 }
 
-// `nodes` is the payload of the list of nodes: see `node_count` and `node_at`.
+// `nodes` is the payload of the list of nodes: see `spans::node_count` and `spans::node_at`.
 pub struct Neighbors {
     pub nodes: Span,
     pub expiration: u64,
@@ -89,98 +86,6 @@ pub enum PacketType {
     EnrRequest,
     EnrResponse,
     Unknown,
-}
-
-// The bytes of a span; none where it does not lie inside the datagram.
-pub fn bytes_of(datagram: &[u8], span: Span) -> &[u8]
-    ensures { λ r. ⌜ now r ≡ spans.bytesOf (now (datagram .entry)) span ⌝ }
-{
-    let start = span.start;
-    let len = span.len;
-    if datagram.len() < start {
-        return &datagram[0..0];
-    }
-    if datagram.len() - start < len {
-        return &datagram[0..0];
-    }
-    let end = start + len;
-    &datagram[start..end]
-}
-
-// The payload of item `n` of the payload `s`.
-fn item_payload(s: &[u8], n: usize) -> Span
-    ensures { λ r. ⌜ r ≡ spanOf n (now (s .entry)) ⌝ }
-{
-    let at = rlp::item_offset(s, n);
-    let Header::Item {
-        list: _,
-        skip,
-        size,
-    } = rlp::read_header(&s[at..])
-    else {
-        return Span { start: at, len: 0 };
-    };
-    Span {
-        start: at + skip,
-        len: size,
-    }
-}
-
-// Item `n` of the payload `s` with its header.
-fn item_span(s: &[u8], n: usize) -> Span
-    ensures { λ r. ⌜ r ≡ itemSpan n (now (s .entry)) ⌝ }
-{
-    let at = rlp::item_offset(s, n);
-    let Header::Item {
-        list: _,
-        skip,
-        size,
-    } = rlp::read_header(&s[at..])
-    else {
-        return Span { start: at, len: 0 };
-    };
-    Span {
-        start: at,
-        len: skip + size,
-    }
-}
-
-// The integer that item `n` of the payload `s` is; 0 where it is none.
-fn uint_item(s: &[u8], n: usize) -> u64
-    ensures { λ r. ⌜ r ≡ uintItem n (now (s .entry)) ⌝ }
-{
-    match rlp::read_uint(bytes_of(s, item_payload(s, n))) {
-        Uint::Value(v) => v,
-        Uint::NotAnInteger => 0,
-    }
-}
-
-// The same where it fits 16 bits, else 0.
-fn port_item(s: &[u8], n: usize) -> u16
-    ensures { λ r. ⌜ r ≡ portItem n (now (s .entry)) ⌝ }
-{
-    let v = uint_item(s, n);
-    if v <= 65535 { v as u16 } else { 0 }
-}
-
-fn enr_seq_item(s: &[u8], n: usize) -> EnrSeq
-    ensures { λ r. ⌜ r ≡ enrSeqItem n (now (s .entry)) ⌝ }
-{
-    if n < rlp::item_count(s) {
-        EnrSeq::Present(uint_item(s, n))
-    } else {
-        EnrSeq::Absent
-    }
-}
-
-fn moved(by: usize, span: Span) -> Span
-    requires { ⌜ by + span .start < 2 ^ 64 ⌝ }
-    ensures { λ r. ⌜ r ≡ spans.moved by span ⌝ }
-{
-    Span {
-        start: by + span.start,
-        len: span.len,
-    }
 }
 
 // The endpoint that is item `n` of the payload `s`, which begins at `base` of the datagram.
@@ -402,52 +307,4 @@ pub fn read_data(kind: u8, bytes: &[u8], base: usize) -> Packet
     ensures { λ r. ⌜ r ≡ readData kind base (now (bytes .entry)) ⌝ }
 {
     read_as(type_of(kind), bytes, base)
-}
-
-// Copies `src` to the front of `dst`, if it fits.
-fn pad(dst: &mut [u8], src: &[u8])
-    ensures { λ _. ⌜ now (dst .exit) ≡ octets.store (now (dst .entry)) 0 (fitting (length (now (dst .entry))) (now (src .entry))) ⌝ }
-{
-    if src.len() <= dst.len() {
-        octets::put_bytes(dst, 0, src);
-    }
-}
-
-fn address_len(p: &[u8]) -> u8
-    ensures { λ r. ⌜ r ≡ length (fitting 16 (now (p .entry))) ⌝ }
-{
-    if p.len() <= 16 { p.len() as u8 } else { 0 }
-}
-
-// The node of a payload.
-fn node_of(p: &[u8]) -> Node
-    ensures { λ r. ⌜ r ≡ nodeOf (now (p .entry)) ⌝ }
-{
-    let address_bytes = bytes_of(p, item_payload(p, 0));
-    let mut address = [0u8; 16];
-    pad(&mut address, address_bytes);
-    let mut key = [0u8; 64];
-    pad(&mut key, bytes_of(p, item_payload(p, 3)));
-    let endpoint = Endpoint {
-        len: address_len(address_bytes),
-        address,
-        udp: port_item(p, 1),
-        tcp: port_item(p, 2),
-    };
-    Node { key, endpoint }
-}
-
-// The number of nodes of a Neighbors packet, by its span `nodes`.
-pub fn node_count(datagram: &[u8], nodes: Span) -> usize
-    ensures { λ r. ⌜ r ≡ length (nodesOf (spans.bytesOf (now (datagram .entry)) nodes)) ⌝ }
-{
-    rlp::item_count(bytes_of(datagram, nodes))
-}
-
-// Node `n` of a Neighbors packet, counted from 0, by its span `nodes`; a node of zeros where there is none.
-pub fn node_at(datagram: &[u8], nodes: Span, n: usize) -> Node
-    ensures { λ r. ⌜ r ≡ nodeAt n (spans.bytesOf (now (datagram .entry)) nodes) ⌝ }
-{
-    let s = bytes_of(datagram, nodes);
-    node_of(bytes_of(s, item_payload(s, n)))
 }

@@ -1,4 +1,4 @@
--- `capi::coghammer_clear` meets its contract: a walk of its MIR, by hand. The borrow is opened, what `discv4::cleared` returned is stored in
+-- `capi::coghammer_clear` meets its contract: a walk of its MIR, by hand. The borrow is opened, what `counters::cleared` returned is stored in
 -- the counters' place, and the borrow is closed at that. All that the walk knows of `cleared` is that it meets its contract. Assumes nothing.
 use mathlib.Core.Path.{_≡_, refl}
 use mathlib.Core.List.{[], _∷_, List}
@@ -36,10 +36,10 @@ use Rattle.counters.specs.Counters.{cleared}
 use Rattle.counters.specs.declared.Counters.{Counters}
 use Rattle.counters.proofs.Counters as T
 use Rattle.counters.proofs.Counters.Laws as T′
-use Rattle.discv4.proofs.cleared as callee
-use Rattle.discv4.proofs.cleared.Symbol as callee-def
-use Rattle.discv4.proofs.cleared.Symbol.{name as #callee}
-use Rattle.discv4.proofs.cleared.Met as callee-thm
+use Rattle.counters.proofs.cleared as callee
+use Rattle.counters.proofs.cleared.Symbol as callee-def
+use Rattle.counters.proofs.cleared.Symbol.{name as #callee}
+use Rattle.counters.proofs.cleared.Met as callee-thm
 use Rattle.capi.proofs.coghammer_clear.Key.{name as #self}
 use Rattle.capi.proofs.coghammer_clear as self
 use Rattle.capi.proofs.coghammer_clear.Statement as stated
@@ -117,4 +117,4 @@ coghammer-clear-spec 𝓤 H 𝓜 𝓖 𝓡 =
     entered 𝓤 H (tripleOf 𝓤 H (𝓖 .A) self.signature (self.spec 𝓤 H (𝓖 .A) (𝓜 .mem) (𝓡 .run)))
     (tables 𝓤 H 𝓜 𝓡 code.env .C) (tables 𝓤 H 𝓜 𝓡 code.env .Λ) #self code.function (code.unfolded 𝓤 H 𝓜 𝓡)
     (meets 𝓤 H (𝓖 .A) (givenOf 𝓤 H 𝓜 𝓖) (𝓜 .mem) (𝓡 .run) (tablesOf 𝓤 H 𝓜 (tables 𝓤 H 𝓜 𝓡 code.env))
-    (cited 𝓤 H (tripleOf 𝓤 H (𝓖 .A) callee.signature (callee.spec 𝓤 H (𝓖 .A) (𝓜 .mem) (𝓡 .run))) 𝓜 𝓡 code.env #callee callee-def.routine code.calls-discv4·cleared (callee-thm.met 𝓤 H 𝓜 𝓖 𝓡)))
+    (cited 𝓤 H (tripleOf 𝓤 H (𝓖 .A) callee.signature (callee.spec 𝓤 H (𝓖 .A) (𝓜 .mem) (𝓡 .run))) 𝓜 𝓡 code.env #callee callee-def.routine code.calls-counters·cleared (callee-thm.met 𝓤 H 𝓜 𝓖 𝓡)))

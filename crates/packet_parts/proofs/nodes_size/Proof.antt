@@ -5,9 +5,10 @@ use mathlib.Core.Bool.{true}
 use mathlib.Core.List.{List, map}
 use native.Mathlib.Omega.{arith}
 use lib.ListN.{length, drop}
+use Rattle.packet_items.specs.Items.{nodeItem}
 use Rattle.entry.specs.declared.Node.{Node}
 use Rattle.rlp.specs.Encoding.{encodes}
-use Rattle.packet_parts.specs.Parts.{nodeItem, nodeItems, nodesOf, haveAddresses}
+use Rattle.packet_parts.specs.Parts.{nodeItems, nodesOf, haveAddresses}
 use Rattle.packet_parts.proofs.Nodes.{noNode, length-mapped, few, addresses, has-address, have-more, next-size, all-passed}
 use borrow.Author.Needs.{needs}
 use Rattle.packet_parts.proofs.nodes_size.Statement.{statement}

@@ -1,9 +1,9 @@
 -- `packets::enr_response_fields` meets its contract. Assumes nothing.
 use native.Mathlib.Omega.{arith}
 use mathlib.Core.Path.{ap, _∙_}
-use Rattle.packets.specs.Spans.{moved}
+use Rattle.spans.specs.Spans.{moved}
 use Rattle.packets.specs.Packets.{enrResponseOf}
-use Rattle.packets.proofs.Spans.{item-span-fits}
+use Rattle.spans.proofs.Spans.{item-span-fits}
 use borrow.Author.Needs.{needs}
 use Rattle.packets.proofs.enr_response_fields.Statement.{statement}
 use Rattle.packets.proofs.enr_response_fields.Tie as tie

@@ -1,8 +1,8 @@
 -- `packets::payload_at` meets its contract. Assumes nothing.
 use native.Mathlib.Omega.{arith}
 use mathlib.Core.Path.{ap, _∙_}
-use Rattle.packets.specs.Spans.{moved}
-use Rattle.packets.proofs.Spans.{span-fits}
+use Rattle.spans.specs.Spans.{moved}
+use Rattle.spans.proofs.Spans.{span-fits}
 use borrow.Author.Needs.{needs}
 use Rattle.packets.proofs.payload_at.Statement.{statement}
 use Rattle.packets.proofs.payload_at.Tie as tie

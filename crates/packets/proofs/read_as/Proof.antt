@@ -3,7 +3,7 @@ use native.Mathlib.Omega.{arith}
 use lib.ListN.{length}
 use mathlib.Core.Path.{sym, ap, _∙_}
 use Rattle.packets.specs.Packets.{readAs, answered}
-use Rattle.packets.proofs.Spans.{span-fits, length-bytes}
+use Rattle.spans.proofs.Spans.{span-fits, length-bytes}
 use Rattle.packets.proofs.Made.{read-good, read-refused}
 use borrow.Author.Needs.{needs}
 use Rattle.packets.proofs.read_as.Statement.{statement}

@@ -1,6 +1,6 @@
 -- `packets::sender_at` meets its contract. Assumes nothing.
 use native.Mathlib.Omega.{arith}
-use Rattle.packets.proofs.Spans.{span-fits, inner-fits}
+use Rattle.spans.proofs.Spans.{span-fits, inner-fits}
 use Rattle.packets.proofs.Made.{sender-is}
 use borrow.Author.Needs.{needs}
 use Rattle.packets.proofs.sender_at.Statement.{statement}
