@@ -14,7 +14,7 @@ use Rattle.packet_join.specs.Join.{canJoin, datagram}
 use Rattle.packet_join.proofs.Datagrams.{signature-size, body-size, datagram-length}
 use Rattle.packet_laws.specs.Bodies.{EnrFits, WrittenBody}
 use Rattle.packet_laws.proofs.Sizes.{body-range}
-use Rattle.discv4.specs.Numbers.{writtenSize}
+use Rattle.packet_parts.specs.Parts.{writtenSize}
 use Rattle.capi.specs.Codes.{seqOf}
 
 size-if : (ok : Bool) (bytes buf : Bytes) → (ok ≡ true → length bytes ≤ 1280) → writtenSize (written ok bytes buf) ≤ 1280

@@ -10,7 +10,7 @@ use Rattle.packet_parts.specs.declared.Written.{Written}
 use Rattle.packet_items.specs.declared.EnrSeq.{EnrSeq}
 use Rattle.packet_items.specs.declared.EnrSeq.the-variants.{Absent, Present}
 use Rattle.closest_call.specs.declared.Listed.{Listed}
-use Rattle.discv4.specs.Numbers.{writtenNumber, writtenSize}
+use Rattle.packet_parts.specs.Parts.{writtenNumber, writtenSize}
 
 -- the answer number in the low byte, and the value above it
 abbrev pub code : ℕ → ℕ → ℕ
