@@ -6,7 +6,7 @@ use native.Mathlib.Nat.{mul-suc}
 use native.Mathlib.Omega.{arith}
 use lib.ListN.{length, take, drop, replicate, length-append, length-drop, length-replicate}
 use lib.Seq.{take-all, take-append-le, drop-append-le}
-use Rattle.keccak_f.specs.Permutation.{keccakF}
+use Rattle.keccak_steps.specs.Permutation.{keccakF}
 use Rattle.keccak.specs.Sponge.{padding, padded, blockAt, xorBlock, absorbed, squeezed, keccak256}
 
 -- the first k blocks do not depend on what follows them

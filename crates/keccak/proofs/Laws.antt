@@ -4,7 +4,7 @@ use mathlib.Core.List.{List}
 use Prim.Native.Nat.{ℕ, zero, suc, _/_, _%_, _*_, _^_, _<_}
 use native.Mathlib.Omega.{arith}
 use lib.ListN.{length, getD}
-use Rattle.keccak_f.specs.Lanes.{each}
+use Rattle.keccak_steps.specs.Lanes.{each}
 use Rattle.keccak.specs.Sponge.{padded, absorbed, keccak256}
 
 pub keccak256-length : (m : List ℕ) → length (keccak256 m) ≡ 32

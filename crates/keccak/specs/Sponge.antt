@@ -3,8 +3,8 @@
 use mathlib.Core.List.{List, [], _∷_, _++_}
 use Prim.Native.Nat.{ℕ, zero, suc, _+_, _-_, _*_, _/_, _%_, _^_}
 use lib.ListN.{length, getD, take, drop, replicate}
-use Rattle.keccak_f.specs.Lanes.{_⊕_, listOf}
-use Rattle.keccak_f.specs.Permutation.{keccakF}
+use Rattle.keccak_steps.specs.Lanes.{_⊕_, listOf}
+use Rattle.keccak_steps.specs.Permutation.{keccakF}
 
 -- how many bytes a block has
 abbrev pub rate : ℕ

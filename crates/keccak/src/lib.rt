@@ -2,7 +2,7 @@
 ghost use mathlib.Core.Path.{_≡_};
 ghost use Prim.Native.Nat.{_+_, _≤_, _<_};
 ghost use lib.ListN.{length};
-ghost use Rattle.keccak_f.specs.Permutation.{keccakF};
+ghost use Rattle.keccak_steps.specs.Permutation.{keccakF};
 ghost use Rattle.keccak.specs.Sponge.{rate, padded, laneAt, xorBlock, squeezed, keccak256};
 
 // How many bytes a block has.

@@ -5,8 +5,8 @@ use mathlib.Core.List.{List, [], _∷_}
 use Prim.Native.Nat.{ℕ, zero, suc, _+_, _<_}
 use native.Mathlib.Nat.{zero-add, add-zero, add-suc, suc-add, le-of-suc-le-suc, not-suc-le-zero}
 use lib.ListN.{getD}
-use Rattle.keccak_f.specs.Lanes.{each, listOf}
-use Rattle.keccak_f.specs.Permutation.{offsets, power, rc, constantBits, roundConstant}
+use Rattle.keccak_steps.specs.Lanes.{each, listOf}
+use Rattle.keccak_steps.specs.Permutation.{offsets, power, rc, constantBits, roundConstant}
 
 abbrev pub publishedConstants : List ℕ
 publishedConstants =

@@ -1,7 +1,7 @@
 -- `keccak::absorb` meets its contract: the block is added, and the permutation follows. Assumes nothing.
 use mathlib.Core.Path.{ap, _∙_}
 use borrow.Author.Needs.{needs}
-use Rattle.keccak_f.specs.Permutation.{keccakF}
+use Rattle.keccak_steps.specs.Permutation.{keccakF}
 use Rattle.keccak.proofs.absorb.Statement.{statement}
 use Rattle.keccak.proofs.absorb.Tie as tie
 

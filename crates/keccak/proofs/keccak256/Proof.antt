@@ -6,7 +6,7 @@ use native.Mathlib.Omega.{arith}
 use lib.ListN.{length, length-take, length-drop}
 use denote.Ref.{now}
 use borrow.Author.Needs.{needs}
-use Rattle.keccak_f.specs.Permutation.{keccakF}
+use Rattle.keccak_steps.specs.Permutation.{keccakF}
 use Rattle.keccak.specs.Sponge.{xorBlock, absorbed, squeezed}
 use Rattle.keccak.proofs.Absorbing.{turn, finish}
 use Rattle.keccak.proofs.keccak256.Statement.{statement}

@@ -8,7 +8,7 @@ use lib.Bits.{xor-zero-r}
 use lib.ListN.{length, getD, List·getD-eq-default}
 use denote.Ref.{now}
 use borrow.Author.Needs.{needs}
-use Rattle.keccak_f.specs.Lanes.{_⊕_}
+use Rattle.keccak_steps.specs.Lanes.{_⊕_}
 use Rattle.keccak.specs.Sponge.{laneAt, xorBlock}
 use Rattle.keccak.proofs.xor_block.Statement.{statement}
 use Rattle.keccak.proofs.xor_block.Tie as tie

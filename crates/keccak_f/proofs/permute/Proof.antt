@@ -4,7 +4,7 @@ use Prim.Native.Nat.{ℕ, _-_, _≤_}
 use native.Mathlib.Numerals.{add-one}
 use native.Mathlib.Omega.{arith}
 use borrow.Author.Needs.{needs}
-use Rattle.keccak_f.specs.Permutation.{round, rounds, keccakF}
+use Rattle.keccak_steps.specs.Permutation.{round, rounds, keccakF}
 use Rattle.keccak_f.proofs.Tables.{constant-at}
 use Rattle.keccak_f.proofs.permute.Statement.{statement}
 use Rattle.keccak_f.proofs.permute.Tie as tie

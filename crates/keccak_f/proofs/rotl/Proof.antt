@@ -4,7 +4,7 @@ use Prim.Native.Nat.{ℕ, _*_, _/_, _%_, _^_, _<_}
 use native.Mathlib.Omega.{arith}
 use lib.Bits.{bitOr, or-zero-r}
 use borrow.Author.Needs.{needs}
-use Rattle.keccak_f.specs.Lanes.{rot}
+use Rattle.keccak_steps.specs.Lanes.{rot}
 use Rattle.keccak_f.proofs.rotl.Statement.{statement}
 use Rattle.keccak_f.proofs.rotl.Tie as tie
 

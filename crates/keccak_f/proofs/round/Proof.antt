@@ -1,7 +1,7 @@
 -- `keccak_f::round` meets its contract: the five steps, one after the other. Assumes nothing.
 use mathlib.Core.Path.{ap, _∙_}
 use borrow.Author.Needs.{needs}
-use Rattle.keccak_f.specs.Permutation.{rho, pi, chi, iota, round}
+use Rattle.keccak_steps.specs.Permutation.{rho, pi, chi, iota, round}
 use Rattle.keccak_f.proofs.round.Statement.{statement}
 use Rattle.keccak_f.proofs.round.Tie as tie
 

@@ -5,7 +5,7 @@ use mathlib.Core.List.{List}
 use Prim.Native.Nat.{ℕ, zero, suc, _+_, _-_, _*_, _/_, _%_, _^_}
 use lib.Dec.{ltb}
 use lib.ListN.{getD, set, replicate}
-use Rattle.keccak_f.specs.Lanes.{_⊕_, andNot, rot, lane, stateOf}
+use Rattle.keccak_steps.specs.Lanes.{_⊕_, andNot, rot, lane, stateOf}
 
 -- theta adds the parities of two columns to each lane
 abbrev pub parity : List ℕ → ℕ → ℕ
