@@ -4,53 +4,11 @@ Independent of the library: written from the discv4 wire page, Ethereum's RLP an
 Answers are document 01's numbers.
 """
 
-# ---- Keccak-256 (original padding)
+import os
+import sys
 
-_ROUND_CONSTANTS = []
-_r = 1
-for _round in range(24):
-    _c = 0
-    for _j in range(7):
-        if _r & 1:
-            _c ^= 1 << ((1 << _j) - 1)
-        _r = (_r << 1) ^ (0x171 if _r & 0x80 else 0)
-    _ROUND_CONSTANTS.append(_c)
-
-_MASK = (1 << 64) - 1
-
-
-def _rotated(v, n):
-    n %= 64
-    return ((v << n) | (v >> (64 - n))) & _MASK if n else v
-
-
-def _permuted(a):
-    for constant in _ROUND_CONSTANTS:
-        c = [a[x][0] ^ a[x][1] ^ a[x][2] ^ a[x][3] ^ a[x][4] for x in range(5)]
-        d = [c[(x - 1) % 5] ^ _rotated(c[(x + 1) % 5], 1) for x in range(5)]
-        a = [[a[x][y] ^ d[x] for y in range(5)] for x in range(5)]
-        b = [[0] * 5 for _ in range(5)]
-        b[0][0] = a[0][0]
-        x, y = 1, 0
-        for t in range(24):
-            b[y][(2 * x + 3 * y) % 5] = _rotated(a[x][y], (t + 1) * (t + 2) // 2)
-            x, y = y, (2 * x + 3 * y) % 5
-        a = [[b[x][y] ^ (~b[(x + 1) % 5][y] & b[(x + 2) % 5][y]) for y in range(5)] for x in range(5)]
-        a[0][0] ^= constant
-    return a
-
-
-def keccak256(message):
-    rate = 136
-    padded = bytearray(message) + b"\x01" + bytes(-(len(message) + 1) % rate)
-    padded[-1] |= 0x80
-    a = [[0] * 5 for _ in range(5)]
-    for start in range(0, len(padded), rate):
-        for i in range(rate // 8):
-            a[i % 5][i // 5] ^= int.from_bytes(padded[start + 8 * i : start + 8 * i + 8], "little")
-        a = _permuted(a)
-    return b"".join(a[i % 5][i // 5].to_bytes(8, "little") for i in range(4))
-
+sys.path.insert(0, os.path.join(os.path.dirname(os.path.abspath(__file__)), "..", "keccak"))
+from keccak256 import keccak256  # noqa: E402
 
 # ---- RLP
 
