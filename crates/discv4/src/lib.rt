@@ -26,10 +26,10 @@ pub use counted_calls::ping_sent_with;
 pub use counted_calls::sweep;
 pub use counted_calls::sweep_with;
 // the types of the public functions
-pub use calls::Outcome;
-pub use calls::Received;
-pub use calls::Standing;
 pub use counters::Counters;
+pub use datagram_answer::Outcome;
+pub use datagram_answer::Received;
+pub use datagram_answer::Standing;
 pub use entry::Endpoint;
 pub use entry::MonotonicMillis;
 pub use entry::Node;
