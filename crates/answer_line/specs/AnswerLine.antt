@@ -8,12 +8,12 @@ use Rattle.octets.specs.Octets.{Bytes}
 use Rattle.text.specs.Decimals.{decimal}
 use Rattle.text.specs.Rows.{row}
 use Rattle.rows.specs.Rows.{entryWord, replacementWord, keyText, pingText}
-use Rattle.calls.specs.declared.Standing.{Standing}
-use Rattle.calls.specs.declared.Standing.the-variants.{Tail, TookEntry, Waiting}
-use Rattle.calls.specs.declared.Outcome.{Outcome}
-use Rattle.calls.specs.declared.Outcome.the-variants.{Refused, Ping, Pong, FindNode, Neighbors, EnrRequest, EnrResponse}
-use Rattle.calls.specs.declared.Received.{Received}
-use Rattle.calls.specs.Answer.{numberOf}
+use Rattle.datagram_answer.specs.declared.Standing.{Standing}
+use Rattle.datagram_answer.specs.declared.Standing.the-variants.{Tail, TookEntry, Waiting}
+use Rattle.datagram_answer.specs.declared.Outcome.{Outcome}
+use Rattle.datagram_answer.specs.declared.Outcome.the-variants.{Refused, Ping, Pong, FindNode, Neighbors, EnrRequest, EnrResponse}
+use Rattle.datagram_answer.specs.declared.Received.{Received}
+use Rattle.datagram_answer.specs.Answer.{numberOf}
 
 -- ---- the words
 

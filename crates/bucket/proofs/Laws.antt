@@ -1,5 +1,5 @@
 -- Laws of lists of entries by value. Assumes nothing.
-use mathlib.Core.Path.{_≡_, refl, sym, ap, _∙_}
+use mathlib.Core.Path.{_≡_, refl, sym, ap, subst, _∙_}
 use mathlib.Core.Bool.{Bool, true, false, cond}
 use mathlib.Core.List.{List, [], _∷_, _++_, map}
 use Prim.Native.Nat.{ℕ, zero, suc, _+_, _-_, _*_, _≤_, _<_}
@@ -42,6 +42,10 @@ pub shown : (b : Bucket) (m : Contents) → Shows b m → contents b ≡ m
 shown b m h =
     ap (λ xs. record { entries = xs; replacements = listed (b .replacements) }) (h .entries .held)
     ∙ ap (λ xs. record { entries = m .entries; replacements = xs }) (h .replacements .held)
+
+-- what holds of a bucket's contents holds of what it shows
+pub of-shown : (P : Contents → Type 0) (b : Bucket) (m : Contents) → Shows b m → P (contents b) → P m
+of-shown P b m h = subst P (shown b m h)
 
 -- a bucket that shows contents within bounds is within bounds
 pub bounded-shown : (b : Bucket) (m : Contents) → Shows b m → length (m .entries) ≤ 16 → length (m .replacements) ≤ 4 → Bounded b

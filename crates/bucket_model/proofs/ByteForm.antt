@@ -14,7 +14,7 @@ use Rattle.lists.specs.Lists.{All}
 use Rattle.entry.specs.declared.Entry.{Entry}
 use Rattle.entry.specs.declared.EndpointProof.the-variants.{Unproved, At}
 use Rattle.entry.specs.declared.PingState.the-variants.{Quiet, Out}
-use Rattle.entry.specs.Layout.{encodeEntry, decodeEntry}
+use Rattle.entry.specs.Layout.{encodeEntry, decodeEntry, noEntry}
 use Rattle.entry.proofs.Laws.{IsEntry, ProofFits, PingFits, decode-encode, length-encodeEntry, decode-entry, decode-endpoint, decode-stamp}
 use Rattle.bucket_model.specs.Contents.{Contents, entriesAt, encodeEntries, encodeList, encodeBucket, decodeBucket}
 
@@ -35,6 +35,15 @@ entriesAt-next s at i = rw add-one (go at i)
     go at (suc i) =
         let e : at + 143 + i * 143 ≡ at + suc i * 143 = omega arith in
         ap (λ l. decodeEntry (part s at 143) ∷ l) (rw e at (go (at + 143) i))
+
+-- the entry with an index
+pub entry-at : (s : Bytes) (at n i : ℕ) → i < n → getD (entriesAt s at n) i noEntry ≡ decodeEntry (part s (at + i * 143) 143)
+unfolding entriesAt
+entry-at s at zero i h = absurd (omega arith)
+entry-at s at (suc n) zero h = let z : at ≡ at + 0 * 143 = omega arith in ap (λ (k : ℕ). decodeEntry (part s k 143)) z
+entry-at s at (suc n) (suc i) h =
+    let z : at + 143 + i * 143 ≡ at + suc i * 143 = omega arith in
+    entry-at s (at + 143) n i (omega arith) ∙ ap (λ (k : ℕ). decodeEntry (part s k 143)) z
 
 -- entries in a part of the bytes
 pub entriesAt-part : (s : Bytes) (at n i m : ℕ) → i + m * 143 ≤ n → entriesAt (part s at n) i m ≡ entriesAt s (at + i) m

@@ -1,13 +1,13 @@
 // What is printed of the answers.
 ghost use Prim.Native.Nat.{_+_, _≤_};
 ghost use lib.ListN.{length};
-use calls::Outcome;
-use calls::Received;
-use calls::Standing;
 use case_lines::bytes_at;
 use case_lines::print_bytes;
 use case_lines::print_number;
 use counters::Counters;
+use datagram_answer::Outcome;
+use datagram_answer::Received;
+use datagram_answer::Standing;
 use entry::Endpoint;
 use entry::Node;
 use entry::PingState;
@@ -85,7 +85,7 @@ fn print_outcome(outcome: Outcome, head: Node) {
 pub fn print_received(received: Received) {
     let outcome = received.outcome;
     let head = received.head;
-    print_answer(calls::number(received));
+    print_answer(datagram_answer::number(received));
     print_outcome(outcome, head);
 }
 

@@ -11,10 +11,11 @@ use Rattle.bucket_model.specs.Contents.{Contents}
 use Rattle.history.specs.Model.{Env, Reading, refused, ping, pong, other, packetRefusals, datagramRefusals, datagram}
 use Rattle.calls_model.specs.Calls.{answerOn, refusalsOn, envOf, bucketFor}
 use Rattle.calls_model.specs.Reading.{reading}
-use Rattle.calls.specs.Answer.{received, outcomeNumber}
-use Rattle.calls.specs.declared.Outcome.{Outcome}
-use Rattle.calls.specs.declared.Outcome.the-variants.{Refused, Ping, Pong, FindNode, Neighbors, EnrRequest, EnrResponse}
-use Rattle.calls.proofs.Answered.{answer-number}
+use Rattle.datagram_answer.specs.Answer.{outcomeNumber}
+use Rattle.datagram_call.specs.Received.{received}
+use Rattle.datagram_answer.specs.declared.Outcome.{Outcome}
+use Rattle.datagram_answer.specs.declared.Outcome.the-variants.{Refused, Ping, Pong, FindNode, Neighbors, EnrRequest, EnrResponse}
+use Rattle.datagram_call.proofs.Answered.{answer-number}
 use Rattle.capi.specs.Codes.{numberIn, outcomeCode, receivedCode}
 
 -- a code's number is the number that it was made of

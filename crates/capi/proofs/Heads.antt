@@ -19,8 +19,8 @@ use Rattle.table.specs.Touched.{touchedBy}
 use Rattle.history.specs.Model.{isOwn, isKept, slot}
 use Rattle.calls_model.specs.Calls.{envOf, bucketFor, unsoundFor}
 use Rattle.calls_model.specs.Reading.{reading}
-use Rattle.calls.specs.Steps.{SoundAt}
-use Rattle.calls.proofs.Touch.{leads, is-touched, sound-at}
+use Rattle.touched_bucket.specs.Reached.{SoundAt}
+use Rattle.touched_bucket.proofs.Touch.{leads, is-touched, sound-at}
 use Rattle.capi.specs.declared.Head.{Head}
 use Rattle.capi.specs.Head.{headNumber, flatEntry, noHead, firstOf, headBy, headOn, headAt, SoundSlot}
 

@@ -1,11 +1,11 @@
 -- The answers of the C boundary in one number: the answer number, and a value above it.
 use Prim.Native.Nat.{ℕ, _+_, _*_, _%_}
 use mathlib.Core.Bool.{Bool, true, false}
-use Rattle.calls.specs.declared.Standing.{Standing}
-use Rattle.calls.specs.declared.Standing.the-variants.{Tail, TookEntry, Waiting}
-use Rattle.calls.specs.declared.Outcome.{Outcome}
-use Rattle.calls.specs.declared.Outcome.the-variants.{Refused, Ping, Pong, FindNode, Neighbors, EnrRequest, EnrResponse}
-use Rattle.calls.specs.declared.Received.{Received}
+use Rattle.datagram_answer.specs.declared.Standing.{Standing}
+use Rattle.datagram_answer.specs.declared.Standing.the-variants.{Tail, TookEntry, Waiting}
+use Rattle.datagram_answer.specs.declared.Outcome.{Outcome}
+use Rattle.datagram_answer.specs.declared.Outcome.the-variants.{Refused, Ping, Pong, FindNode, Neighbors, EnrRequest, EnrResponse}
+use Rattle.datagram_answer.specs.declared.Received.{Received}
 use Rattle.packet_parts.specs.declared.Written.{Written}
 use Rattle.packet_items.specs.declared.EnrSeq.{EnrSeq}
 use Rattle.packet_items.specs.declared.EnrSeq.the-variants.{Absent, Present}

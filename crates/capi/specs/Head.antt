@@ -15,7 +15,7 @@ use Rattle.table.specs.declared.Touched.the-variants.{WrongKey, Own, NotKept, S
 use Rattle.history.specs.Model.{isOwn, isKept}
 use Rattle.calls_model.specs.Calls.{envOf, bucketFor, unsoundFor}
 use Rattle.calls_model.specs.Reading.{reading}
-use Rattle.calls.specs.Steps.{SoundAt}
+use Rattle.touched_bucket.specs.Reached.{SoundAt}
 use Rattle.capi.specs.declared.Head.{Head}
 
 -- the answer number: 1, 5, 7, 12 as of a call with this key, or 0

@@ -9,8 +9,8 @@ ghost use Rattle.history.specs.Model as model;
 ghost use Rattle.table_model.specs.Layout.{bucketAt};
 ghost use Rattle.calls_model.specs.Calls.{answerOn, bytesAfter};
 ghost use Rattle.calls_model.specs.Reading.{reading};
-ghost use Rattle.calls.specs.Answer.{received};
-ghost use Rattle.calls.specs.Steps.{SoundAt};
+ghost use Rattle.datagram_call.specs.Received.{received};
+ghost use Rattle.touched_bucket.specs.Reached.{SoundAt};
 ghost use Rattle.spans.specs.Spans as spans;
 ghost use Rattle.wire.specs.Datagram.{packetIn};
 ghost use Rattle.packet_parts.specs.Parts.{written, writtenIn};
@@ -26,10 +26,9 @@ ghost use Rattle.capi.specs.Fields.{seqPresent, seqValue, flatPing, flat
 ghost use Rattle.capi.specs.Head as heads;
 ghost use Rattle.capi.specs.Head.{headNumber, headOn, flatEntry, noHead, unlessRefused};
 ghost use Rattle.capi.specs.Packed.{packedAt, packedList, isPacked, canPacked};
-use calls::Outcome;
-use calls::Reach;
-use calls::Standing;
 use counters::Counters;
+use datagram_answer::Outcome;
+use datagram_answer::Standing;
 use discv4::Listed;
 use entry::Endpoint;
 use entry::Entry;
@@ -49,6 +48,7 @@ use packets::Ping;
 use packets::Pong;
 use spans::Span;
 use table::Touched;
+use touched_bucket::Reach;
 
 // ---- codes
 
@@ -155,7 +155,7 @@ fn datagram_on(
     ensures { λ r. ⌜ r ≡ receivedCode (received (now (table .entry)) clock unix (now (address .entry)) port (now (signer .entry)) (now (datagram .entry))) ⌝ }
     ensures { λ r. ⌜ now (table .exit) ≡ bytesAfter reading (now (table .entry)) (model.datagram clock unix (now (address .entry)) port (now (signer .entry)) (now (datagram .entry))) ⌝ }
 {
-    let received = calls::datagram_on(
+    let received = datagram_call::datagram_on(
         table,
         MonotonicMillis(clock),
         UnixSeconds(unix),
@@ -180,14 +180,14 @@ fn ping_sent_on(
     ensures { λ r. ⌜ r ≡ answerOn reading (now (table .entry)) (model.pingSent clock (now (key .entry)) (now (address .entry)) udp tcp (now (hash .entry))) ⌝ }
     ensures { λ r. ⌜ now (table .exit) ≡ bytesAfter reading (now (table .entry)) (model.pingSent clock (now (key .entry)) (now (address .entry)) udp tcp (now (hash .entry))) ⌝ }
 {
-    calls::ping_sent_on(table, MonotonicMillis(clock), key, address, udp, tcp, hash)
+    ping_sent_call::ping_sent_on(table, MonotonicMillis(clock), key, address, udp, tcp, hash)
 }
 
 fn sweep_on(table: &mut [u8], clock: u64) -> u8
     ensures { λ r. ⌜ r ≡ answerOn reading (now (table .entry)) (model.sweep clock) ⌝ }
     ensures { λ r. ⌜ now (table .exit) ≡ bytesAfter reading (now (table .entry)) (model.sweep clock) ⌝ }
 {
-    calls::sweep_on(table, MonotonicMillis(clock))
+    sweep_call::sweep_on(table, MonotonicMillis(clock))
 }
 
 // A datagram came from the sender's address and UDP port, signed with this key; the key is empty where the signature recovers none. The
@@ -354,7 +354,7 @@ fn head_at(table: &[u8], touched: Touched) -> Head
 fn head_on(table: &[u8], key: &[u8]) -> Head
     ensures { λ r. ⌜ r ≡ headOn (now (table .entry)) (now (key .entry)) ⌝ }
 {
-    let reached = calls::reached_by(table, key);
+    let reached = touched_bucket::reached_by(table, key);
     match reached {
         Reach::Unsound => no_head(1),
         Reach::At(touched) => head_at(table, touched),
@@ -619,7 +619,7 @@ fn unpacked(nodes: &[u8]) -> NodeList
     ensures { λ r. ⌜ (r .len ≡ length (now (nodes .entry)) / 85) × (take (r .len) (r .nodes) ≡ packedList (now (nodes .entry)) .nodes) ⌝ }
 {
     let len = nodes.len() / 85;
-    let none = calls::no_node();
+    let none = entry::no_node();
     let mut list = [none; 16];
     let mut i = 0;
     while i < len {

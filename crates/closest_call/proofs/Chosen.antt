@@ -23,10 +23,10 @@ use Rattle.table_closest.specs.Closest as nearest
 use Rattle.history.specs.Model.{closest}
 use Rattle.calls_model.specs.Reading.{reading}
 use Rattle.calls_model.specs.Calls.{refusalsOn, answerOn}
-use Rattle.calls.specs.declared.Choice.{Choice}
-use Rattle.calls.specs.Answer.{nodeOf}
-use Rattle.calls.specs.Closest.{chosen}
-use Rattle.calls.proofs.Nodes.{closest-nodes}
+use Rattle.closest_choice.specs.declared.Choice.{Choice}
+use Rattle.entry.specs.Nodes.{nodeOf}
+use Rattle.closest_choice.specs.Closest.{chosen}
+use Rattle.closest_choice.proofs.Nodes.{closest-nodes}
 use Rattle.closest_call.specs.declared.Listed.{Listed}
 use Rattle.closest_call.specs.Closest.{entriesOf, distanceTo, closestNodes, closestNumber, nodesFor, listed, withFront, numberAndCount, nodeAt, withChosen}
 

@@ -15,9 +15,9 @@ use Rattle.nearest.specs.Sort.{sortBy}
 use Rattle.history.specs.Model.{closest}
 use Rattle.calls_model.specs.Reading.{reading}
 use Rattle.calls_model.specs.Calls.{answerOn}
-use Rattle.calls.specs.declared.Choice.{Choice}
-use Rattle.calls.specs.Answer.{nodeOf}
-use Rattle.calls.specs.Closest.{nodeIn}
+use Rattle.closest_choice.specs.declared.Choice.{Choice}
+use Rattle.entry.specs.Nodes.{nodeOf}
+use Rattle.closest_choice.specs.Closest.{nodeIn}
 use Rattle.closest_call.specs.declared.Listed.{Listed}
 use Rattle.closest_call.specs.declared.Found.{Found}
 

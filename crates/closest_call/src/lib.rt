@@ -3,7 +3,7 @@ ghost use mathlib.Core.Path.{_≡_};
 ghost use Prim.Native.Nat.{_<_, _≤_};
 ghost use lib.ListN.{length};
 ghost use Rattle.closest_call.specs.Closest.{listed, listAfter, found, numberAndCount, chosenNode, withChosen};
-use calls::Choice;
+use closest_choice::Choice;
 use entry::Node;
 
 // The answer number of a closest call, and how many nodes the list received: none where the call is refused.
@@ -19,7 +19,7 @@ fn chosen_node(table: &[u8], choice: Choice, i: usize) -> Node
 {
     let nearest = choice.nearest;
     let near = nearest.list[i];
-    calls::node_in(table, near.slot, near.index)
+    closest_choice::node_in(table, near.slot, near.index)
 }
 
 // What a closest call answers.
@@ -50,7 +50,7 @@ pub fn closest(list: &mut [Node], table: &[u8], target: &[u8]) -> Listed
     ensures { λ r. ⌜ (r ≡ listed (now (table .entry)) (now (target .entry)) (length (now (list .entry))))
         × (now (list .exit) ≡ listAfter (now (table .entry)) (now (target .entry)) (now (list .entry))) ⌝ }
 {
-    let choice = calls::closest_on(table, target, list.len());
+    let choice = closest_choice::closest_on(table, target, list.len());
     store_nodes(list, table, choice);
     number_and_count(choice)
 }

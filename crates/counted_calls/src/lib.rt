@@ -4,10 +4,11 @@ ghost use mathlib.Core.Path.{_≡_};
 ghost use Rattle.history.specs.Model as model;
 ghost use Rattle.calls_model.specs.Calls.{answerOn, bytesAfter};
 ghost use Rattle.calls_model.specs.Reading.{reading};
-ghost use Rattle.calls.specs.Answer.{received, numberOf};
+ghost use Rattle.datagram_answer.specs.Answer.{numberOf};
+ghost use Rattle.datagram_call.specs.Received.{received};
 ghost use Rattle.counters.specs.Counters.{raised};
-use calls::Received;
 use counters::Counters;
+use datagram_answer::Received;
 use entry::MonotonicMillis;
 use entry::UnixSeconds;
 
@@ -26,8 +27,8 @@ pub fn datagram(
     ensures { λ r. ⌜ now (table .exit) ≡ bytesAfter reading (now (table .entry)) (model.datagram (clock .0) (unix .0) (now (address .entry)) port (now (signer .entry)) (now (datagram .entry))) ⌝ }
     ensures { λ r. ⌜ now (counters .exit) ≡ raised (now (counters .entry)) (numberOf r) ⌝ }
 {
-    let answer = calls::datagram_on(table, clock, unix, address, port, signer, datagram);
-    counters::count(counters, calls::number(answer));
+    let answer = datagram_call::datagram_on(table, clock, unix, address, port, signer, datagram);
+    counters::count(counters, datagram_answer::number(answer));
     answer
 }
 
@@ -46,7 +47,7 @@ pub fn ping_sent(
     ensures { λ r. ⌜ now (table .exit) ≡ bytesAfter reading (now (table .entry)) (model.pingSent (clock .0) (now (key .entry)) (now (address .entry)) udp tcp (now (hash .entry))) ⌝ }
     ensures { λ r. ⌜ now (counters .exit) ≡ raised (now (counters .entry)) r ⌝ }
 {
-    let answer = calls::ping_sent_on(table, clock, key, address, udp, tcp, hash);
+    let answer = ping_sent_call::ping_sent_on(table, clock, key, address, udp, tcp, hash);
     counters::count(counters, answer);
     answer
 }
@@ -58,7 +59,7 @@ pub fn sweep(counters: &mut Counters, table: &mut [u8], clock: MonotonicMillis) 
     ensures { λ r. ⌜ now (table .exit) ≡ bytesAfter reading (now (table .entry)) (model.sweep (clock .0)) ⌝ }
     ensures { λ r. ⌜ now (counters .exit) ≡ raised (now (counters .entry)) r ⌝ }
 {
-    let answer = calls::sweep_on(table, clock);
+    let answer = sweep_call::sweep_on(table, clock);
     counters::count(counters, answer);
     answer
 }

@@ -21,7 +21,7 @@ use Rattle.calls_model.specs.Calls.{answerOn, bytesAfter}
 use Rattle.calls_model.specs.Reading.{reading}
 use Rattle.calls_model.proofs.Demand3.{demand3-of-calls}
 use Rattle.calls_model.proofs.AnyBytes.{on-any-bytes}
-use Rattle.calls.proofs.Answered.{answer-number}
+use Rattle.datagram_call.proofs.Answered.{answer-number}
 use Rattle.counters.specs.declared.Counters.{Counters}
 use Rattle.counters.specs.Counters.{raised, cleared, countOf}
 use Rattle.counters.specs.History.{counted, timesOf, capped}

@@ -15,7 +15,8 @@ use Rattle.history.specs.Demand3.{Demand3}
 use Rattle.calls_model.specs.Calls.{answerOn, bytesAfter}
 use Rattle.calls_model.specs.Reading.{reading}
 use Rattle.calls_model.specs.Demand3.{encode}
-use Rattle.calls.specs.Answer.{received, numberOf}
+use Rattle.datagram_answer.specs.Answer.{numberOf}
+use Rattle.datagram_call.specs.Received.{received}
 use Rattle.counters.specs.declared.Counters.{Counters}
 use Rattle.counters.specs.Counters.{raised, cleared, countOf}
 use Rattle.counters.specs.History.{timesOf, capped}

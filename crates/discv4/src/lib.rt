@@ -17,9 +17,9 @@ pub use counted_calls::sweep;
 pub use counted_calls::sweep_with;
 pub use table::init;
 // the answers
-pub use calls::Outcome;
-pub use calls::Received;
-pub use calls::Standing;
+pub use datagram_answer::Outcome;
+pub use datagram_answer::Received;
+pub use datagram_answer::Standing;
 
 // ---- counters
 pub use counters::Counters;

@@ -4,6 +4,7 @@ ghost use mathlib.Core.Path.{_≡_};
 ghost use Prim.Native.Nat.{_+_, _≤_};
 ghost use lib.ListN.{length};
 ghost use Rattle.octets.specs.Octets.{part, store, number};
+ghost use Rattle.entry.specs.Nodes.{noNode, nodeOf};
 ghost use Rattle.entry.specs.Layout.{encodeEntry, decodeEntry, encodeEndpoint, decodeEndpoint, encodeStamp, decodeStamp, proofStamp, pingStamp, proofOf, pingOf};
 
 // Document 01's box milliseconds: a clock that never goes back. Pings and proofs are timed by it.
@@ -76,6 +77,31 @@ impl Entry {
             hash: [0; 32],
         }
     }
+}
+
+// A node of zeros.
+pub fn no_node() -> Node
+    ensures { λ r. ⌜ r ≡ noNode ⌝ }
+{
+    let endpoint = Endpoint {
+        len: 0,
+        address: [0; 16],
+        udp: 0,
+        tcp: 0,
+    };
+    Node {
+        key: [0; 64],
+        endpoint,
+    }
+}
+
+// An entry's node record.
+pub fn node_of(e: Entry) -> Node
+    ensures { λ r. ⌜ r ≡ nodeOf e ⌝ }
+{
+    let key = e.key;
+    let endpoint = e.endpoint;
+    Node { key, endpoint }
 }
 
 fn port_at(bytes: &[u8], at: usize) -> u16

@@ -17,7 +17,7 @@ use Rattle.calls_model.specs.Calls.{answerOn, bytesAfter}
 use Rattle.calls_model.specs.Reading.{reading}
 use Rattle.calls_model.specs.AnyBytes.{SoundFor}
 use Rattle.calls_model.proofs.AnyBytes.{on-any-bytes}
-use Rattle.calls.specs.Answer.{received}
+use Rattle.datagram_call.specs.Received.{received}
 use Rattle.answer_line.specs.AnswerLine.{numberRow, receivedRow}
 use Rattle.log_replay.specs.Replay.{State, said, withTable, lineAnswer, lineAfter, answer, after}
 

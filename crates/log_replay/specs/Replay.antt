@@ -17,7 +17,7 @@ use Rattle.table.specs.Init.{freshTable}
 use Rattle.history.specs.Model.{datagram, pingSent, sweep}
 use Rattle.calls_model.specs.Calls.{answerOn, bytesAfter}
 use Rattle.calls_model.specs.Reading.{reading}
-use Rattle.calls.specs.Answer.{received}
+use Rattle.datagram_call.specs.Received.{received}
 use Rattle.answer_line.specs.AnswerLine.{numberRow, receivedRow}
 use Rattle.printout.specs.Printout.{printout}
 

@@ -10,7 +10,7 @@ ghost use Rattle.table.specs.Init.{freshTable};
 ghost use Rattle.history.specs.Model as model;
 ghost use Rattle.calls_model.specs.Calls.{answerOn, bytesAfter};
 ghost use Rattle.calls_model.specs.Reading.{reading};
-ghost use Rattle.calls.specs.Answer.{received};
+ghost use Rattle.datagram_call.specs.Received.{received};
 ghost use Rattle.answer_line.specs.AnswerLine.{numberRow, receivedRow};
 ghost use Rattle.log_replay.specs.Replay.{said, ownNumber, ownAnswer, ownAfter};
 ghost use Rattle.log_replay.specs.Steps.{sizeOf, stateOf, Answered, AnsweredLine};
@@ -142,7 +142,7 @@ fn rx(
     let k = put_unhex(&mut key, 0, text_of(line, signer));
     let mut bytes = [0u8; 1500];
     let n = put_unhex(&mut bytes, 0, text_of(line, datagram));
-    let received = calls::datagram_on(
+    let received = datagram_call::datagram_on(
         table,
         MonotonicMillis(clock),
         UnixSeconds(unix),
@@ -178,7 +178,7 @@ fn sent(
     let a = put_unhex(&mut to, 0, text_of(line, address));
     let mut bytes = [0u8; 1500];
     let n = put_unhex(&mut bytes, 0, text_of(line, hash));
-    let number = calls::ping_sent_on(
+    let number = ping_sent_call::ping_sent_on(
         table,
         MonotonicMillis(clock),
         &node[0..k],
@@ -198,7 +198,7 @@ fn sweep(table: &mut [u8], out: &mut [u8], clock: u64) -> usize
     ensures bytes { λ _. ⌜ now (table .exit) ≡ bytesAfter reading (now (table .entry)) (model.sweep clock) ⌝ }
     ensures room { λ r. ⌜ r ≤ 64 ⌝ }
 {
-    let number = calls::sweep_on(table, MonotonicMillis(clock));
+    let number = sweep_call::sweep_on(table, MonotonicMillis(clock));
     put_number(out, number)
 }
 

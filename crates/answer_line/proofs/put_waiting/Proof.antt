@@ -6,7 +6,7 @@ use Rattle.packet_parts.proofs.Progress.{room, step}
 use Rattle.text.specs.Decimals.{decimal}
 use Rattle.text.proofs.Decimals.{length-one}
 use lib.ListN.{length}
-use Rattle.calls.specs.declared.Standing.the-variants.{Waiting}
+use Rattle.datagram_answer.specs.declared.Standing.the-variants.{Waiting}
 use Rattle.answer_line.specs.AnswerLine.{pongFields}
 use Rattle.rows.proofs.Rows.{pieces, total, Writing, key-bound, ping-bound}
 use Rattle.answer_line.proofs.Lines.{begin-line, end-line, ping-fits}

@@ -39,7 +39,7 @@ use Rattle.walk.proofs.Call.{Callee, the-contract, Tokens, Owned, Last, calls-k
 use Rattle.octets.specs.Octets.{Bytes}
 use Rattle.entry.specs.declared.Node.{Node}
 use Rattle.entry.proofs.Node as TN
-use Rattle.calls.specs.Closest.{chosen}
+use Rattle.closest_choice.specs.Closest.{chosen}
 use Rattle.closest_call.specs.Closest.{listed, listAfter}
 use Rattle.closest_call.specs.declared.Listed.{Listed}
 use Rattle.closest_call.proofs.Chosen.{fits, answers}

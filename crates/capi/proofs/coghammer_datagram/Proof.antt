@@ -44,7 +44,7 @@ use Rattle.walk.proofs.Facts.{joined, parted, says-all}
 use Rattle.history.specs.Model as model
 use Rattle.calls_model.specs.Calls.{bytesAfter}
 use Rattle.calls_model.specs.Reading.{reading}
-use Rattle.calls.specs.Answer.{received}
+use Rattle.datagram_call.specs.Received.{received}
 use Rattle.counters.specs.Counters.{raised}
 use Rattle.counters.specs.declared.Counters.{Counters}
 use Rattle.counters.proofs.Counters as TC

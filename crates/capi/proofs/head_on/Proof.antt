@@ -1,5 +1,5 @@
 -- `capi::head_on` meets its contract. Assumes nothing.
-use Rattle.calls.proofs.Touch.{unsound-reached, sound-reached}
+use Rattle.touched_bucket.proofs.Touch.{unsound-reached, sound-reached}
 use Rattle.capi.proofs.Heads.{unsound-head, sound-head, touches-sound}
 use borrow.Author.Needs.{needs}
 use Rattle.capi.proofs.head_on.Statement.{statement}

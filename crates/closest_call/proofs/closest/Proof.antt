@@ -39,14 +39,14 @@ use denote.Exit.{yes}
 use Rattle.walk.proofs.Call.{Callee, the-contract, Tokens, Owned, Last, calls-known, calls-plain}
 use Rattle.entry.specs.declared.Node.{Node}
 use Rattle.entry.proofs.Node as TN
-use Rattle.calls.specs.declared.Choice.{Choice}
-use Rattle.calls.specs.Closest.{chosen}
-use Rattle.calls.proofs.Choice as TC
-use Rattle.calls.proofs.Choice.Laws as TC′
-use Rattle.calls.proofs.closest_on as choose
-use Rattle.calls.proofs.closest_on.Symbol as choose-def
-use Rattle.calls.proofs.closest_on.Symbol.{name as #choose}
-use Rattle.calls.proofs.closest_on.Met as choose-thm
+use Rattle.closest_choice.specs.declared.Choice.{Choice}
+use Rattle.closest_choice.specs.Closest.{chosen}
+use Rattle.closest_choice.proofs.Choice as TC
+use Rattle.closest_choice.proofs.Choice.Laws as TC′
+use Rattle.closest_choice.proofs.closest_on as choose
+use Rattle.closest_choice.proofs.closest_on.Symbol as choose-def
+use Rattle.closest_choice.proofs.closest_on.Symbol.{name as #choose}
+use Rattle.closest_choice.proofs.closest_on.Met as choose-thm
 use Rattle.closest_call.specs.Closest.{numberAndCount, withChosen}
 use Rattle.closest_call.specs.declared.Listed.{Listed}
 use Rattle.closest_call.proofs.Chosen.{fits, answers, writes}
@@ -175,6 +175,6 @@ closest-spec 𝓤 H 𝓜 𝓖 𝓡 =
     entered 𝓤 H (tripleOf 𝓤 H (𝓖 .A) self.signature (self.spec 𝓤 H (𝓖 .A) (𝓜 .mem) (𝓡 .run)))
     (tables 𝓤 H 𝓜 𝓡 code.env .C) (tables 𝓤 H 𝓜 𝓡 code.env .Λ) #self code.function (code.unfolded 𝓤 H 𝓜 𝓡)
     (meets 𝓤 H (𝓖 .A) (givenOf 𝓤 H 𝓜 𝓖) (𝓜 .mem) (𝓡 .run) (tablesOf 𝓤 H 𝓜 (tables 𝓤 H 𝓜 𝓡 code.env))
-    (cited 𝓤 H (tripleOf 𝓤 H (𝓖 .A) choose.signature (choose.spec 𝓤 H (𝓖 .A) (𝓜 .mem) (𝓡 .run))) 𝓜 𝓡 code.env #choose choose-def.routine code.calls-calls·closest-on (choose-thm.met 𝓤 H 𝓜 𝓖 𝓡))
+    (cited 𝓤 H (tripleOf 𝓤 H (𝓖 .A) choose.signature (choose.spec 𝓤 H (𝓖 .A) (𝓜 .mem) (𝓡 .run))) 𝓜 𝓡 code.env #choose choose-def.routine code.calls-closest-choice·closest-on (choose-thm.met 𝓤 H 𝓜 𝓖 𝓡))
     (cited 𝓤 H (tripleOf 𝓤 H (𝓖 .A) store-nodes.signature (store-nodes.spec 𝓤 H (𝓖 .A) (𝓜 .mem) (𝓡 .run))) 𝓜 𝓡 code.env #store-nodes store-nodes-def.routine code.calls-closest-call·store-nodes (store-nodes-thm.met 𝓤 H 𝓜 𝓖 𝓡))
     (cited 𝓤 H (tripleOf 𝓤 H (𝓖 .A) tell.signature (tell.spec 𝓤 H (𝓖 .A) (𝓜 .mem) (𝓡 .run))) 𝓜 𝓡 code.env #tell tell-def.routine code.calls-closest-call·number-and-count (tell-thm.met 𝓤 H 𝓜 𝓖 𝓡)))

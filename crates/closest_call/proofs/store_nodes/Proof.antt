@@ -50,13 +50,13 @@ use Rattle.walk.proofs.Call.{Callee, the-contract, Tokens, calls-known}
 use borrow.Author.Tests.{lt-ltb, le-ltb, ltb-true, ltb-false}
 use Rattle.closest_call.specs.Closest.{nodeAt, nowhere, chosenNode, withChosen}
 use Rattle.entry.specs.declared.Node.{Node}
-use Rattle.calls.specs.declared.Choice.{Choice}
+use Rattle.closest_choice.specs.declared.Choice.{Choice}
 use Rattle.closest_call.proofs.Written.{upto, upto-length, upto-next}
 use Rattle.entry.proofs.Node as TN
 use Rattle.entry.proofs.Node.Laws as TN′
 use Rattle.nearest.proofs.Near as TNear
-use Rattle.calls.proofs.Choice as TC
-use Rattle.calls.proofs.Choice.Laws as TC′
+use Rattle.closest_choice.proofs.Choice as TC
+use Rattle.closest_choice.proofs.Choice.Laws as TC′
 use Rattle.closest_call.proofs.chosen_node as chosen-node
 use Rattle.closest_call.proofs.chosen_node.Symbol as chosen-node-def
 use Rattle.closest_call.proofs.chosen_node.Symbol.{name as #chosen-node}

@@ -49,10 +49,11 @@ use Rattle.walk.proofs.Lent.{lent, back}
 use Rattle.history.specs.Model as model
 use Rattle.calls_model.specs.Calls.{bytesAfter}
 use Rattle.calls_model.specs.Reading.{reading}
-use Rattle.calls.specs.Answer.{received, numberOf}
-use Rattle.calls.specs.declared.Received.{Received}
-use Rattle.calls.proofs.Received as TA
-use Rattle.calls.proofs.Received.Laws as TA′
+use Rattle.datagram_answer.specs.Answer.{numberOf}
+use Rattle.datagram_call.specs.Received.{received}
+use Rattle.datagram_answer.specs.declared.Received.{Received}
+use Rattle.datagram_answer.proofs.Received as TA
+use Rattle.datagram_answer.proofs.Received.Laws as TA′
 use Rattle.counters.specs.Counters.{raised}
 use Rattle.counters.specs.declared.Counters.{Counters}
 use Rattle.counters.proofs.Counters as TC

@@ -5,7 +5,7 @@ use Rattle.octets.specs.Octets.{store}
 use Rattle.history.specs.Model.{datagram}
 use Rattle.calls_model.specs.Calls.{bytesAfter}
 use Rattle.calls_model.specs.Reading.{reading}
-use Rattle.calls.specs.Answer.{received}
+use Rattle.datagram_call.specs.Received.{received}
 use Rattle.answer_line.specs.AnswerLine.{receivedRow}
 use Rattle.log_replay.proofs.Fields.{said-fits, decoded, by-three}
 use borrow.Author.Needs.{needs}

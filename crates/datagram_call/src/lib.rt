@@ -1,0 +1,70 @@
+// The datagram call on a table in lent bytes, for any bytes.
+ghost use mathlib.Core.Path.{_≡_};
+ghost use Prim.Native.Nat.{_≤_};
+ghost use Rattle.table_model.specs.Layout.{clockOf};
+ghost use Rattle.history.specs.Model as model;
+ghost use Rattle.calls_model.specs.Calls.{bytesAfter};
+ghost use Rattle.calls_model.specs.Reading.{reading};
+ghost use Rattle.touched_bucket.specs.Reached.{SoundAt};
+ghost use Rattle.datagram_call.specs.Steps.{delivered, afterDelivery};
+ghost use Rattle.datagram_call.specs.Received.{received};
+use datagram_answer::Outcome;
+use datagram_answer::Received;
+use datagram_tests::Judged;
+use entry::MonotonicMillis;
+use entry::UnixSeconds;
+use packets::Packet;
+
+// An accepted packet reaches the bucket in its sender's slot: answers 13 to 15, or 0 and the bucket and the clock are written.
+fn deliver(
+    table: &mut [u8],
+    slot: usize,
+    packet: Packet,
+    clock: MonotonicMillis,
+    address: &[u8],
+    port: u16,
+    signer: &[u8],
+    datagram: &[u8],
+) -> Received
+    requires { ⌜ SoundAt (now table) slot × (clockOf (now table) ≤ clock .0) ⌝ }
+    ensures { λ r. ⌜ r ≡ delivered (now (table .entry)) slot (clock .0) (now (address .entry)) port (now (signer .entry)) (now (datagram .entry)) packet ⌝ }
+    ensures { λ r. ⌜ now (table .exit) ≡ afterDelivery (now (table .entry)) slot (clock .0) (now (address .entry)) port (now (signer .entry)) (now (datagram .entry)) packet ⌝ }
+{
+    let b = touched_bucket::bucket_in(table, slot);
+    let l = bucket_lookup::look_up(b, signer);
+    let n = datagram_effect::packet_number(l, packet, datagram, clock, address, port);
+    if n != 0 {
+        return datagram_answer::plain(Outcome::Refused(n));
+    }
+    let after = datagram_effect::changed(b, l, packet, clock, address, port, signer);
+    touched_bucket::put(table, slot, after, clock);
+    datagram_answer::accepted(b, l, packet, clock, address, port)
+}
+
+// A datagram came from the sender's address and UDP port, signed with this key; the key is empty where the signature recovers none.
+pub fn datagram_on(
+    table: &mut [u8],
+    clock: MonotonicMillis,
+    unix: UnixSeconds,
+    address: &[u8],
+    port: u16,
+    signer: &[u8],
+    datagram: &[u8],
+) -> Received
+    ensures { λ r. ⌜ r ≡ received (now (table .entry)) (clock .0) (unix .0) (now (address .entry)) port (now (signer .entry)) (now (datagram .entry)) ⌝ }
+    ensures { λ r. ⌜ now (table .exit) ≡ bytesAfter reading (now (table .entry)) (model.datagram (clock .0) (unix .0) (now (address .entry)) port (now (signer .entry)) (now (datagram .entry))) ⌝ }
+{
+    match datagram_tests::judge(table, clock, unix, address, signer, datagram) {
+        Judged::Refused(n) => datagram_answer::plain(Outcome::Refused(n)),
+        Judged::Passed(slot, packet) => deliver(
+            table,
+            slot,
+            packet,
+            clock,
+            address,
+            port,
+            signer,
+            datagram,
+        ),
+    }
+}

@@ -1,0 +1,12 @@
+-- Node records.
+use lib.ListN.{replicate}
+use Rattle.entry.specs.declared.Node.{Node}
+use Rattle.entry.specs.declared.Entry.{Entry}
+
+-- a node of zeros
+abbrev pub noNode : Node
+noNode = record { key = replicate 64 0; endpoint = record { len = 0; address = replicate 16 0; udp = 0; tcp = 0 } }
+
+-- an entry's node record
+abbrev pub nodeOf : Entry → Node
+nodeOf e = record { key = e .key; endpoint = e .endpoint }
