@@ -6,8 +6,8 @@
     public_call.py c-call NAME MODEL ANSWER KIND..      capi::coghammer_NAME(counters: &mut Counters, table: &mut [u8], P1, ..)
 
 NAME does its work by NAME_call::NAME_on, counts the answer's number and returns the answer; NAME_with lends a copy of its counters
-to NAME; coghammer_NAME does its work by capi::NAME_on. MODEL is the call's constructor in history's specs/Model.antt. ANSWER is
-`number` (a u8: the answer number), `received` (a datagram_answer::Received) or `code` (a u32, of which capi::number_in is the number). A KIND
+to NAME; coghammer_NAME does its work by plain_calls::NAME_on. MODEL is the call's constructor in history's specs/Model.antt. ANSWER is
+`number` (a u8: the answer number), `received` (a datagram_answer::Received) or `code` (a u32, of which answer_code::number_in is the number). A KIND
 is that of a parameter after the table: slice, u16, u64, or a struct that holds one number, as entry::UnixSeconds.
 
 A proof finds each local by where it stands in the context, so it fits that body only. The two texts are CALL and BY_VALUE, at
@@ -154,7 +154,7 @@ ANSWERS = {"number": "u8", "received": "datagram_answer::Received", "code": "u32
 NUMBERS = {
     "number": ("", "", ""),
     "received": ("numberOf", "datagram_answer::number", "{}"),
-    "code": ("numberIn", "capi::number_in", "receivedCode ({})"),
+    "code": ("numberIn", "answer_code::number_in", "receivedCode ({})"),
 }
 
 
@@ -170,13 +170,13 @@ def proof(mode, name, model, answer, *kinds):
     call = f"(model.{model} {' '.join(args)})"
     row, law, _, tell, makes, mir = plain(ANSWERS[answer], "TA")
     function = name + "_with" if by_value else "coghammer_" + name if for_c else name
-    crate, work_crate = ("capi", "capi") if for_c else ("counted_calls", name + "_call")
+    crate, work_crate = ("capi", "plain_calls") if for_c else ("counted_calls", name + "_call")
     values = {
         "name": name, "name-dashed": name.replace("_", "-"), "function": function, "function-dashed": function.replace("_", "-"),
         "crate": crate, "crate-proofs": f"Rattle.{crate}.proofs", "work-crate": work_crate, "work-crate-dashed": work_crate.replace("_", "-"),
-        "work-proofs": f"Rattle.{work_crate}" + ("·proofs.proofs" if for_c else ".proofs"),
+        "work-proofs": f"Rattle.{work_crate}.proofs",
         "number-name": NUMBERS[answer][0], "number-call": NUMBERS[answer][1].replace("::", "·").replace("_", "-"),
-        "number-proofs": "Rattle.capi.proofs.number_in" if for_c else "Rattle.datagram_answer.proofs.number",
+        "number-proofs": "Rattle.answer_code.proofs.number_in" if for_c else "Rattle.datagram_answer.proofs.number",
         "Answer": "Received" if answer == "received" else "ℕ", "Result": "CountedNumber" if number else "Counted", "field": answer,
         "number-of-r": "r" if number else f"({NUMBERS[answer][0]} r)",
         "answer-row": row, "answer-lawful": law, "answer-tells": tell, "answer-makes": makes, "answer-mir": mir,
@@ -314,7 +314,7 @@ use Rattle.counters.proofs.count as count
 use Rattle.counters.proofs.count.Symbol as count-def
 use Rattle.counters.proofs.count.Symbol.{name as #count}
 use Rattle.counters.proofs.count.Met as count-thm
-use Rattle.capi.specs.Codes.{numberIn, receivedCode}
+use Rattle.answer_code.specs.Codes.{numberIn, receivedCode}
 ‹uses›
 """
 

@@ -1,7 +1,7 @@
 -- `capi::coghammer_node_at` meets its contract. Assumes nothing.
 use mathlib.Core.Path.{ap}
 use Rattle.entry.specs.declared.Node.{Node}
-use Rattle.capi.specs.Fields.{nodeNumbers}
+use Rattle.flat_packet.specs.Fields.{nodeNumbers}
 use borrow.Author.Needs.{needs}
 use Rattle.capi.proofs.coghammer_node_at.Statement.{statement}
 use Rattle.capi.proofs.coghammer_node_at.Tie as tie

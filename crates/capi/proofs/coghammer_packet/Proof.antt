@@ -1,53 +1,30 @@
 -- `capi::coghammer_packet` meets its contract. Assumes nothing.
-use mathlib.Core.Path.{refl}
+use mathlib.Core.Path.{_≡_, refl, _∙_}
+use mathlib.Core.List.{List}
+use Prim.Native.Nat.{ℕ}
+use Rattle.packets.specs.declared.Packet.{Packet}
+use Rattle.packets.specs.declared.Packet.the-variants as packet
+use Rattle.wire.specs.Datagram.{packetIn}
+use Rattle.flat_packet.specs.Fields.{readNumber, fieldsAfter}
 use borrow.Author.Needs.{needs}
 use Rattle.capi.proofs.coghammer_packet.Statement.{statement}
 use Rattle.capi.proofs.coghammer_packet.Tie as tie
 
--- what was read, with what it says
+-- a number that is not 0 is a refused packet's
+kept : (p : Packet) (old : List ℕ) → (readNumber p ≡ 0 → ⊥) → old ≡ fieldsAfter p old
+kept (packet.Ping p) old h = absurd (h refl)
+kept (packet.Pong p) old h = absurd (h refl)
+kept (packet.FindNode p) old h = absurd (h refl)
+kept (packet.Neighbors p) old h = absurd (h refl)
+kept (packet.EnrRequest p) old h = absurd (h refl)
+kept (packet.EnrResponse p) old h = absurd (h refl)
+kept (packet.Refused n) old h = refl
+
 returns : tie.Need-returns
-returns c = rw (← (c .before .before .before .packet-in .ensures), c .before .n .given .1) (refl, refl)
-
-returns-2 : tie.Need-returns-2
-returns-2 c = rw (← (c .before .before .before .before .packet-in .ensures), c .before .before .p .given .1) (refl, c .flat-ping .ensures)
-
-returns-3 : tie.Need-returns-3
-returns-3 c = rw (← (c .before .before .before .before .packet-in .ensures), c .before .before .p2 .given .1) (refl, c .flat-pong .ensures)
-
-returns-4 : tie.Need-returns-4
-returns-4 c = rw (← (c .before .before .before .before .packet-in .ensures), c .before .before .p3 .given .1) (refl, c .flat-find-node .ensures)
-
-returns-5 : tie.Need-returns-5
-returns-5 c = rw (← (c .before .before .before .before .packet-in .ensures), c .before .before .p4 .given .1) (refl, c .flat-neighbors .ensures)
-
-returns-6 : tie.Need-returns-6
-returns-6 c = rw (← (c .before .before .before .before .packet-in .ensures), c .before .before .p5 .given .1) (refl, c .flat-enr-request .ensures)
-
-returns-7 : tie.Need-returns-7
-returns-7 c = rw (← (c .before .before .before .before .packet-in .ensures), c .before .before .p6 .given .1) (refl, c .flat-enr-response .ensures)
+returns c =
+    let a = c .before .before .before .before .before .args in
+    let e = c .before .before .read-fields .ensures .0 in
+    (e, kept (packetIn (a .datagram .now)) (a .fields .now) (λ z. c .if1 .taken (e ∙ z)))
 
 pub coghammer-packet-spec : {M : Type 1} → statement M
-coghammer-packet-spec =
-    tie.close
-    (tie.spec
-    (λ c κs. search needs)
-    (λ c. search needs)
-    (λ c κs. search needs)
-    (λ c. search needs)
-    (λ c κs. search needs)
-    (λ c. search needs)
-    (λ c κs. search needs)
-    (λ c. search needs)
-    (λ c κs. search needs)
-    (λ c. search needs)
-    (λ c κs. search needs)
-    (λ c. search needs)
-    (λ c κs. search needs)
-    (λ c. search needs)
-    returns
-    returns-2
-    returns-3
-    returns-4
-    returns-5
-    returns-6
-    returns-7)
+coghammer-packet-spec = tie.close (tie.spec (λ c κs. search needs) returns (λ c. search needs))

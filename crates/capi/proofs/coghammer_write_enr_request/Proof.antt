@@ -4,8 +4,8 @@ use mathlib.Core.Bool.{true}
 use native.Mathlib.Omega.{arith}
 use Rattle.packet_writer.specs.Writers.{enrRequestBody}
 use Rattle.packet_laws.specs.Bodies.{enrRequest}
-use Rattle.capi.proofs.Sizes.{body-fits}
-use Rattle.capi.specs.Codes.{writtenCode}
+use Rattle.answer_code.proofs.Sizes.{body-fits}
+use Rattle.answer_code.specs.Codes.{writtenCode}
 use borrow.Author.Needs.{needs}
 use Rattle.capi.proofs.coghammer_write_enr_request.Statement.{statement}
 use Rattle.capi.proofs.coghammer_write_enr_request.Tie as tie

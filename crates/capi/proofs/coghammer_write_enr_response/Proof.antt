@@ -4,8 +4,8 @@ use native.Mathlib.Omega.{arith}
 use Rattle.octets.proofs.Laws.{slice}
 use Rattle.packet_writer.specs.Writers.{canEnrResponse, enrResponseBody}
 use Rattle.packet_laws.specs.Bodies.{enrResponse}
-use Rattle.capi.proofs.Sizes.{body-fits}
-use Rattle.capi.specs.Codes.{writtenCode}
+use Rattle.answer_code.proofs.Sizes.{body-fits}
+use Rattle.answer_code.specs.Codes.{writtenCode}
 use borrow.Author.Needs.{needs}
 use Rattle.capi.proofs.coghammer_write_enr_response.Statement.{statement}
 use Rattle.capi.proofs.coghammer_write_enr_response.Tie as tie

@@ -3,8 +3,8 @@ use mathlib.Core.Path.{ap, _∙_}
 use native.Mathlib.Omega.{arith}
 use Rattle.packet_writer.specs.Writers.{canFindNode, findNodeBody}
 use Rattle.packet_laws.specs.Bodies.{findNode}
-use Rattle.capi.proofs.Sizes.{body-fits}
-use Rattle.capi.specs.Codes.{writtenCode}
+use Rattle.answer_code.proofs.Sizes.{body-fits}
+use Rattle.answer_code.specs.Codes.{writtenCode}
 use borrow.Author.Needs.{needs}
 use Rattle.capi.proofs.coghammer_write_find_node.Statement.{statement}
 use Rattle.capi.proofs.coghammer_write_find_node.Tie as tie

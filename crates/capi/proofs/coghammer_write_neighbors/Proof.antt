@@ -1,17 +1,24 @@
 -- `capi::coghammer_write_neighbors` meets its contract. Assumes nothing.
-use mathlib.Core.Path.{_≡_, sym, ap, _∙_}
-use mathlib.Core.Bool.{true}
+use mathlib.Core.Path.{_≡_, refl, sym, ap, _∙_}
+use mathlib.Core.Bool.{true, false}
+use Prim.Native.Nat.{ℕ}
 use native.Mathlib.Omega.{arith}
 use borrow.Author.Tests.{not-true, not-false}
-use Rattle.packet_parts.specs.Parts.{writableNodes}
+use Rattle.octets.specs.Octets.{Bytes}
+use Rattle.packet_parts.specs.Parts.{writableNodes, written, writtenIn}
 use Rattle.packet_writer.specs.Writers.{neighborsBody}
-use Rattle.capi.specs.Codes.{writtenCode}
-use Rattle.capi.specs.Packed.{isPacked, packedList}
-use Rattle.capi.proofs.Sizes.{body-fits}
-use Rattle.capi.proofs.Packed.{body-is-written, same-answer, same-bytes, not-packed}
+use Rattle.answer_code.specs.Codes.{code, writtenCode}
+use Rattle.packed_nodes.specs.Packed.{isPacked, packedList, canPacked}
+use Rattle.answer_code.proofs.Sizes.{body-fits}
+use Rattle.packed_nodes.proofs.Packed.{body-is-written, same-answer, same-bytes}
 use borrow.Author.Needs.{needs}
 use Rattle.capi.proofs.coghammer_write_neighbors.Statement.{statement}
 use Rattle.capi.proofs.coghammer_write_neighbors.Tie as tie
+
+-- bytes that are no packed nodes
+not-packed : (s bytes buf : Bytes) {r : ℕ} → isPacked s ≡ false → r ≡ code 20 0 → (r ≡ writtenCode (written (canPacked s) bytes buf)) × (buf ≡ writtenIn (canPacked s) bytes buf)
+unfolding written writtenIn
+not-packed s bytes buf h e = (e ∙ sym (rw h refl), sym (rw h refl))
 
 returns : tie.Need-returns
 returns c =

@@ -1,10 +1,8 @@
 -- `capi::coghammer_write_ping` meets its contract. Assumes nothing.
-use mathlib.Core.Path.{refl, ap, _∙_}
 use native.Mathlib.Omega.{arith}
 use Rattle.packet_writer.specs.Writers.{canPing, pingBody}
 use Rattle.packet_laws.specs.Bodies.{ping}
-use Rattle.capi.proofs.Sizes.{body-fits, seq-fits}
-use Rattle.capi.specs.Codes.{writtenCode}
+use Rattle.answer_code.proofs.Sizes.{body-fits, seq-fits, by-seq}
 use borrow.Author.Needs.{needs}
 use Rattle.capi.proofs.coghammer_write_ping.Statement.{statement}
 use Rattle.capi.proofs.coghammer_write_ping.Tie as tie
@@ -19,9 +17,9 @@ written-code-requires c κs =
 
 returns : tie.Need-returns
 returns c =
-    let seq = c .before .before .before .before .before .enr-seq-of .ensures in
-    let w = c .before .before .before .write-ping .ensures in
-    (c .written-code .ensures ∙ ap writtenCode (w .0) ∙ rw seq refl, w .1 ∙ rw seq refl)
+    let a = c .before .before .before .before .before .before .before .before .before .args in
+    by-seq (canPing (a .from .now) (a .to .now)) (λ s. pingBody (a .from .now) (a .from-udp) (a .from-tcp) (a .to .now) (a .to-udp) (a .expiration) s) (a .buf .now)
+    (c .before .before .before .before .before .enr-seq-of .ensures) (c .before .before .before .write-ping .ensures) (c .written-code .ensures)
 
 pub coghammer-write-ping-spec : {M : Type 1} → statement M
 coghammer-write-ping-spec =

@@ -1,10 +1,8 @@
 -- `capi::coghammer_write_pong` meets its contract. Assumes nothing.
-use mathlib.Core.Path.{refl, ap, _∙_}
 use native.Mathlib.Omega.{arith}
 use Rattle.packet_writer.specs.Writers.{canPong, pongBody}
 use Rattle.packet_laws.specs.Bodies.{pong}
-use Rattle.capi.proofs.Sizes.{body-fits, seq-fits}
-use Rattle.capi.specs.Codes.{writtenCode}
+use Rattle.answer_code.proofs.Sizes.{body-fits, seq-fits, by-seq}
 use borrow.Author.Needs.{needs}
 use Rattle.capi.proofs.coghammer_write_pong.Statement.{statement}
 use Rattle.capi.proofs.coghammer_write_pong.Tie as tie
@@ -19,9 +17,9 @@ written-code-requires c κs =
 
 returns : tie.Need-returns
 returns c =
-    let seq = c .before .before .before .before .before .enr-seq-of .ensures in
-    let w = c .before .before .before .write-pong .ensures in
-    (c .written-code .ensures ∙ ap writtenCode (w .0) ∙ rw seq refl, w .1 ∙ rw seq refl)
+    let a = c .before .before .before .before .before .before .before .before .before .args in
+    by-seq (canPong (a .to .now) (a .ping-hash .now)) (λ s. pongBody (a .to .now) (a .to-udp) (a .ping-hash .now) (a .expiration) s) (a .buf .now)
+    (c .before .before .before .before .before .enr-seq-of .ensures) (c .before .before .before .write-pong .ensures) (c .written-code .ensures)
 
 pub coghammer-write-pong-spec : {M : Type 1} → statement M
 coghammer-write-pong-spec =

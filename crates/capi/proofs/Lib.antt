@@ -1,4 +1,0 @@
-pub mod Codes
-pub mod Sizes
-pub mod Heads
-pub mod Packed

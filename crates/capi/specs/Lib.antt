@@ -1,4 +1,0 @@
-pub mod Codes
-pub mod Fields
-pub mod Head
-pub mod Packed
