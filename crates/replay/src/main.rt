@@ -5,6 +5,7 @@ ghost use mathlib.Core.Bool.{true, false};
 ghost use Prim.Native.Nat.{_+_, _≤_, _<_};
 ghost use lib.ListN.{length};
 ghost use Rattle.lines.specs.Steps.{fresh};
+ghost use Rattle.answer_line.specs.AnswerLine.{answerRoom};
 ghost use Rattle.log_replay.specs.Replay.{Reached};
 ghost use Rattle.log_replay.specs.Steps.{stateOf};
 ghost use Rattle.replay.specs.Progress.{Ready, left};
@@ -36,7 +37,7 @@ fn write_out(bytes: &[u8]) {
 // Where the next answer goes: the output is written out where it might find no room.
 fn make_room(out: &[u8], used: usize) -> usize
     requires { ⌜ (65536 ≤ length (now out)) × (used ≤ length (now out)) ⌝ }
-    ensures { λ r. ⌜ r + 64 ≤ length (now (out .entry)) ⌝ }
+    ensures { λ r. ⌜ r + answerRoom ≤ length (now (out .entry)) ⌝ }
 {
     if used <= 65472 {
         return used;

@@ -4,14 +4,14 @@ use mathlib.Core.List.{[], _∷_, _++_}
 use Rattle.octets.specs.Octets.{Bytes}
 use Rattle.text.specs.Decimals.{decimal}
 use Rattle.text.specs.Hex.{hex}
-use Rattle.text.specs.Rows.{tabbed}
-use Rattle.rows.specs.Rows.{rowEnd, pingText}
+use Rattle.text.specs.Rows.{tabbed, rowEnd}
+use Rattle.rows.specs.Rows.{pingText}
 use Rattle.entry.specs.declared.Endpoint.{Endpoint}
 use Rattle.entry.specs.declared.MonotonicMillis.{MonotonicMillis}
 use Rattle.entry.specs.declared.EndpointProof.{EndpointProof}
 use Rattle.entry.specs.declared.PingState.{PingState}
 use Rattle.bucket_model.specs.Rules.{addressOf}
-use Rattle.printout.specs.Printout.{proofText}
+use Rattle.entry_row.specs.EntryRow.{proofText}
 
 -- the word, the distance and the place
 abbrev pub placeText : Bytes → ℕ → ℕ → Bytes

@@ -1,9 +1,9 @@
--- `printout::proof_field` meets its contract, by the cases of what it writes. Assumes nothing.
-use Rattle.printout.specs.Printout.{proofText}
+-- `entry_row::proof_field` meets its contract, by the cases of what it writes. Assumes nothing.
+use Rattle.entry_row.specs.EntryRow.{proofText}
 use Rattle.rows.proofs.Rows.{field-fits, field-wrote}
 use borrow.Author.Needs.{needs}
-use Rattle.printout.proofs.proof_field.Statement.{statement}
-use Rattle.printout.proofs.proof_field.Tie as tie
+use Rattle.entry_row.proofs.proof_field.Statement.{statement}
+use Rattle.entry_row.proofs.proof_field.Tie as tie
 
 word-field-requires : tie.Need-word-field-requires
 word-field-requires c κs = field-fits proofText (c .before .before .enum-told .given .1) (c .before .before .before .before .before .args .at) (c .before .before .before .before .before .pre)

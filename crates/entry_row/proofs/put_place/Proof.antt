@@ -1,12 +1,12 @@
--- `printout::put_place` meets its contract. Assumes nothing.
+-- `entry_row::put_place` meets its contract. Assumes nothing.
 use mathlib.Core.Path.{refl}
 use mathlib.Core.List.{List, [], _∷_}
 use Rattle.octets.specs.Octets.{Bytes}
 use Rattle.text.specs.Decimals.{decimal}
 use Rattle.packet_parts.proofs.Progress.{Progress, start, room, step, finish}
 use borrow.Author.Needs.{needs}
-use Rattle.printout.proofs.put_place.Statement.{statement}
-use Rattle.printout.proofs.put_place.Tie as tie
+use Rattle.entry_row.proofs.put_place.Statement.{statement}
+use Rattle.entry_row.proofs.put_place.Tie as tie
 
 abbrev pieces : tie.Start → List Bytes
 pieces c = c .args .word .now ∷ (0x09 ∷ decimal (c .args .number)) ∷ (0x09 ∷ decimal (c .args .place)) ∷ []

@@ -1,4 +1,4 @@
--- `printout::put_endpoint` meets its contract. Assumes nothing.
+-- `entry_row::put_endpoint` meets its contract. Assumes nothing.
 use Prim.Native.Nat.{_≤_}
 use mathlib.Core.Path.{_≡_, refl, sym}
 use mathlib.Core.List.{List, [], _∷_}
@@ -11,8 +11,8 @@ use Rattle.text.specs.Hex.{hex}
 use Rattle.bucket_model.specs.Rules.{addressOf}
 use Rattle.packet_parts.proofs.Progress.{Progress, start, room, step, finish}
 use borrow.Author.Needs.{needs}
-use Rattle.printout.proofs.put_endpoint.Statement.{statement}
-use Rattle.printout.proofs.put_endpoint.Tie as tie
+use Rattle.entry_row.proofs.put_endpoint.Statement.{statement}
+use Rattle.entry_row.proofs.put_endpoint.Tie as tie
 
 array : (c : tie.Start) → length (c .args .endpoint .address) ≡ 16
 array c = search needs

@@ -1,4 +1,4 @@
--- `printout::put_times` meets its contract. Assumes nothing.
+-- `entry_row::put_times` meets its contract. Assumes nothing.
 use mathlib.Core.Path.{_≡_, ap}
 use mathlib.Core.List.{List, [], _∷_}
 use native.Mathlib.Omega.{arith}
@@ -6,13 +6,14 @@ use lib.ListN.{length}
 use Rattle.octets.specs.Octets.{Bytes}
 use Rattle.text.specs.Decimals.{decimal}
 use Rattle.packet_parts.proofs.Progress.{Progress, concat, start, room, step, finish}
-use Rattle.rows.specs.Rows.{rowEnd, pingText}
+use Rattle.text.specs.Rows.{rowEnd}
+use Rattle.rows.specs.Rows.{pingText}
 use Rattle.rows.proofs.Rows.{tabs, tabs-are}
-use Rattle.printout.specs.Printout.{proofText}
-use Rattle.printout.specs.Parts.{timesText}
+use Rattle.entry_row.specs.EntryRow.{proofText}
+use Rattle.entry_row.specs.Parts.{timesText}
 use borrow.Author.Needs.{needs}
-use Rattle.printout.proofs.put_times.Statement.{statement}
-use Rattle.printout.proofs.put_times.Tie as tie
+use Rattle.entry_row.proofs.put_times.Statement.{statement}
+use Rattle.entry_row.proofs.put_times.Tie as tie
 
 abbrev fields : tie.Start → List Bytes
 fields c = let a = c .args in decimal (a .seen .0) ∷ proofText (a .proof) ∷ pingText (a .ping) ∷ []

@@ -1,4 +1,4 @@
--- `printout::put_entry` meets its contract. Assumes nothing.
+-- `entry_row::put_entry` meets its contract. Assumes nothing.
 use mathlib.Core.Path.{_≡_, ap}
 use mathlib.Core.List.{List, [], _∷_}
 use native.Mathlib.Omega.{arith}
@@ -9,12 +9,12 @@ use Rattle.text.specs.Hex.{hex}
 use Rattle.bucket_model.specs.Rules.{addressOf}
 use Rattle.rows.specs.Rows.{keyText, pingText}
 use Rattle.packet_parts.proofs.Progress.{Progress, concat, start, room, step, finish}
-use Rattle.printout.specs.Printout.{proofText, entryRow}
-use Rattle.printout.specs.Parts.{placeText, endpointText, timesText}
-use Rattle.printout.proofs.Rows.{row-parts}
+use Rattle.entry_row.specs.EntryRow.{proofText, entryRow}
+use Rattle.entry_row.specs.Parts.{placeText, endpointText, timesText}
+use Rattle.entry_row.proofs.Rows.{row-parts}
 use borrow.Author.Needs.{needs}
-use Rattle.printout.proofs.put_entry.Statement.{statement}
-use Rattle.printout.proofs.put_entry.Tie as tie
+use Rattle.entry_row.proofs.put_entry.Statement.{statement}
+use Rattle.entry_row.proofs.put_entry.Tie as tie
 
 abbrev pieces : tie.Start → List Bytes
 pieces c =
