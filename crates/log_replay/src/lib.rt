@@ -9,7 +9,8 @@ ghost use Rattle.lines.specs.Lines.{whole};
 ghost use Rattle.table.specs.Init.{freshTable};
 ghost use Rattle.answer_line.specs.AnswerLine.{answerRoom, numberRow};
 ghost use Rattle.line_calls.specs.Fields.{said};
-ghost use Rattle.log_replay.specs.Replay.{ownNumber, ownAnswer, ownAfter};
+ghost use Rattle.printout.specs.Held as held;
+ghost use Rattle.log_replay.specs.Replay.{ownNumber, ownAnswer, ownAfter, Reached, ending};
 ghost use Rattle.log_replay.specs.Steps.{sizeOf, stateOf, Answered, AnsweredLine};
 use answer_line::put_number;
 use line_calls::decode_field;
@@ -166,6 +167,20 @@ pub fn step(memory: &mut [u8], out: &mut [u8], replay: Replay, line: &[u8]) -> S
         Line::Unreadable => put_number(out, 21),
     };
     Stepped { replay, len }
+}
+
+// What follows the answers: the table's printout, or nothing where there is no table.
+pub fn put_ending(out: &mut [u8], memory: &[u8], replay: Replay) -> usize
+    requires { ⌜ (held.room ≤ length (now out)) × ((46304 ≤ length (now memory)) × ((replay .count ≤ 16) × Reached (stateOf replay (now memory)))) ⌝ }
+    ensures len { λ r. ⌜ r ≡ length (ending (stateOf replay (now (memory .entry)))) ⌝ }
+    ensures written { λ _. ⌜ now (out .exit) ≡ store (now (out .entry)) 0 (ending (stateOf replay (now (memory .entry)))) ⌝ }
+    ensures room { λ r. ⌜ r ≤ held.room ⌝ }
+{
+    if replay.count == 0 {
+        return 0;
+    }
+    let size = replay.size();
+    printout::put_table(out, &memory[0..size])
 }
 
 // Answers a line over the limit; the replay and the memory stay.

@@ -205,11 +205,7 @@ fn answer_last(memory: &mut [u8], buffer: &[u8], out: &mut [u8], p: Progress) ->
 fn print_table(memory: &[u8], out: &mut [u8], replay: Replay)
     requires { ⌜ (46304 ≤ length (now memory)) × ((65536 ≤ length (now out)) × ((replay .count ≤ 16) × Reached (stateOf replay (now memory)))) ⌝ }
 {
-    if replay.count == 0 {
-        return;
-    }
-    let size = replay.size();
-    let n = printout::put_table(out, &memory[0..size]);
+    let n = log_replay::put_ending(out, memory, replay);
     write_out(&out[0..n]);
 }
 
