@@ -1,4 +1,4 @@
--- Writing a line from the start of the lent bytes, in at most 64 of them. Assumes nothing.
+-- Writing a line from the start of the lent bytes, in at most `answerRoom` of them. Assumes nothing.
 use Prim.Native.Nat.{ℕ, _+_, _≤_}
 use mathlib.Core.Path.{_≡_}
 use mathlib.Core.List.{List, []}
@@ -15,13 +15,14 @@ use Rattle.entry.proofs.PingState as PS
 use Rattle.entry.proofs.PingState.Laws as PS′
 use Rattle.entry.proofs.Laws.{PingFits}
 use Rattle.text.specs.Rows.{row}
+use Rattle.answer_line.specs.AnswerLine.{answerRoom}
 use Rattle.rows.proofs.Rows.{pieces, total, length-row, Writing, begin, end}
 
-module _ (d first : Bytes) (more : List Bytes) (fits : length first + total more + 1 ≤ 64) where
-  pub begin-line : 64 ≤ length d → Writing d 0 first more (pieces first more) d 0
+module _ (d first : Bytes) (more : List Bytes) (fits : length first + total more + 1 ≤ answerRoom) where
+  pub begin-line : answerRoom ≤ length d → Writing d 0 first more (pieces first more) d 0
   begin-line h = begin d 0 first more (omega (arith, length-row first more, fits, h))
 
-  pub end-line : {d′ : Bytes} {n : ℕ} → Writing d 0 first more [] d′ n → (n ≡ length (row first more)) × ((d′ ≡ store d 0 (row first more)) × (n ≤ 64))
+  pub end-line : {d′ : Bytes} {n : ℕ} → Writing d 0 first more [] d′ n → (n ≡ length (row first more)) × ((d′ ≡ store d 0 (row first more)) × (n ≤ answerRoom))
   end-line p = let w = end d 0 first more p in (omega (arith, w .0), (w .1, omega (arith, w .0, length-row first more, fits)))
 
 -- the millisecond of a ping state that is passed by value fits 64 bits

@@ -47,6 +47,10 @@ recordWord = 0x72 ∷ 0x65 ∷ 0x63 ∷ 0x6f ∷ 0x72 ∷ 0x64 ∷ []
 
 -- ---- the lines
 
+-- as many bytes as a line takes at most, and some more
+abbrev pub answerRoom : ℕ
+answerRoom = 64
+
 -- a number alone
 abbrev pub numberRow : ℕ → Bytes
 numberRow n = row (decimal n) []

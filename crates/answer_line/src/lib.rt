@@ -6,7 +6,7 @@ ghost use lib.ListN.{length};
 ghost use Rattle.octets.specs.Octets.{store};
 ghost use Rattle.text.specs.Decimals.{decimal};
 ghost use Rattle.text.specs.Rows.{row};
-ghost use Rattle.answer_line.specs.AnswerLine.{numberRow, receivedRow, pingFields, pongFields};
+ghost use Rattle.answer_line.specs.AnswerLine.{answerRoom, numberRow, receivedRow, pingFields, pongFields};
 use datagram_answer::Outcome;
 use datagram_answer::Received;
 use datagram_answer::Standing;
@@ -16,15 +16,22 @@ use rows::ping_field;
 use rows::put_end;
 use rows::word_field;
 
-// As many bytes as an answer line takes at most, and some more.
+// The bytes that an answer line can take.
 pub const ROOM: usize = 64;
+
+// The bytes that each function here asks for.
+pub fn asked_room() -> usize
+    ensures { λ r. ⌜ r ≡ answerRoom ⌝ }
+{
+    ROOM
+}
 
 // The line of a number alone; its length.
 pub fn put_number(out: &mut [u8], n: u8) -> usize
-    requires { ⌜ 64 ≤ length (now out) ⌝ }
+    requires { ⌜ answerRoom ≤ length (now out) ⌝ }
     ensures len { λ r. ⌜ r ≡ length (numberRow n) ⌝ }
     ensures bytes { λ _. ⌜ now (out .exit) ≡ store (now (out .entry)) 0 (numberRow n) ⌝ }
-    ensures size { λ r. ⌜ r ≤ 64 ⌝ }
+    ensures size { λ r. ⌜ r ≤ answerRoom ⌝ }
 {
     let end = text::put_decimal(out, 0, n as u64);
     put_end(out, end)
@@ -32,10 +39,10 @@ pub fn put_number(out: &mut [u8], n: u8) -> usize
 
 // The line of 0 and a word; its length.
 fn put_word_row(out: &mut [u8], word: &[u8]) -> usize
-    requires { ⌜ (64 ≤ length (now out)) × (length (now word) ≤ 8) ⌝ }
+    requires { ⌜ (answerRoom ≤ length (now out)) × (length (now word) ≤ 8) ⌝ }
     ensures len { λ r. ⌜ r ≡ length (row (decimal 0) (now (word .entry) ∷ [])) ⌝ }
     ensures bytes { λ _. ⌜ now (out .exit) ≡ store (now (out .entry)) 0 (row (decimal 0) (now (word .entry) ∷ [])) ⌝ }
-    ensures size { λ r. ⌜ r ≤ 64 ⌝ }
+    ensures size { λ r. ⌜ r ≤ answerRoom ⌝ }
 {
     let a = text::put_decimal(out, 0, 0);
     let b = word_field(out, a, word);
@@ -44,10 +51,10 @@ fn put_word_row(out: &mut [u8], word: &[u8]) -> usize
 
 // The line of 0 and two words; its length.
 fn put_words_row(out: &mut [u8], word: &[u8], second: &[u8]) -> usize
-    requires { ⌜ (64 ≤ length (now out)) × ((length (now word) ≤ 8) × (length (now second) ≤ 8)) ⌝ }
+    requires { ⌜ (answerRoom ≤ length (now out)) × ((length (now word) ≤ 8) × (length (now second) ≤ 8)) ⌝ }
     ensures len { λ r. ⌜ r ≡ length (row (decimal 0) (now (word .entry) ∷ now (second .entry) ∷ [])) ⌝ }
     ensures bytes { λ _. ⌜ now (out .exit) ≡ store (now (out .entry)) 0 (row (decimal 0) (now (word .entry) ∷ now (second .entry) ∷ [])) ⌝ }
-    ensures size { λ r. ⌜ r ≤ 64 ⌝ }
+    ensures size { λ r. ⌜ r ≤ answerRoom ⌝ }
 {
     let a = text::put_decimal(out, 0, 0);
     let b = word_field(out, a, word);
@@ -57,10 +64,10 @@ fn put_words_row(out: &mut [u8], word: &[u8], second: &[u8]) -> usize
 
 // The line of an accepted ping; its length.
 fn put_ping(out: &mut [u8], due: bool) -> usize
-    requires { ⌜ 64 ≤ length (now out) ⌝ }
+    requires { ⌜ answerRoom ≤ length (now out) ⌝ }
     ensures len { λ r. ⌜ r ≡ length (row (decimal 0) (pingFields due)) ⌝ }
     ensures bytes { λ _. ⌜ now (out .exit) ≡ store (now (out .entry)) 0 (row (decimal 0) (pingFields due)) ⌝ }
-    ensures size { λ r. ⌜ r ≤ 64 ⌝ }
+    ensures size { λ r. ⌜ r ≤ answerRoom ⌝ }
 {
     if due {
         return put_words_row(out, b"pong", b"ping");
@@ -70,10 +77,10 @@ fn put_ping(out: &mut [u8], due: bool) -> usize
 
 // The line of an accepted pong whose sender waits, where `key` is the head's; its length.
 fn put_waiting(out: &mut [u8], key: [u8; 64], ping: PingState) -> usize
-    requires { ⌜ 64 ≤ length (now out) ⌝ }
+    requires { ⌜ answerRoom ≤ length (now out) ⌝ }
     ensures len { λ r. ⌜ r ≡ length (row (decimal 0) (pongFields (Standing.Waiting ping) key)) ⌝ }
     ensures bytes { λ _. ⌜ now (out .exit) ≡ store (now (out .entry)) 0 (row (decimal 0) (pongFields (Standing.Waiting ping) key)) ⌝ }
-    ensures size { λ r. ⌜ r ≤ 64 ⌝ }
+    ensures size { λ r. ⌜ r ≤ answerRoom ⌝ }
 {
     let a = text::put_decimal(out, 0, 0);
     let b = word_field(out, a, b"wait");
@@ -84,10 +91,10 @@ fn put_waiting(out: &mut [u8], key: [u8; 64], ping: PingState) -> usize
 
 // The line of an accepted pong, where `key` is the head's; its length.
 fn put_pong(out: &mut [u8], standing: Standing, key: [u8; 64]) -> usize
-    requires { ⌜ 64 ≤ length (now out) ⌝ }
+    requires { ⌜ answerRoom ≤ length (now out) ⌝ }
     ensures len { λ r. ⌜ r ≡ length (row (decimal 0) (pongFields standing key)) ⌝ }
     ensures bytes { λ _. ⌜ now (out .exit) ≡ store (now (out .entry)) 0 (row (decimal 0) (pongFields standing key)) ⌝ }
-    ensures size { λ r. ⌜ r ≤ 64 ⌝ }
+    ensures size { λ r. ⌜ r ≤ answerRoom ⌝ }
 {
     match standing {
         Standing::Tail => put_word_row(out, b"tail"),
@@ -98,10 +105,10 @@ fn put_pong(out: &mut [u8], standing: Standing, key: [u8; 64]) -> usize
 
 // The line that answers an `rx`; its length.
 pub fn put_received(out: &mut [u8], received: Received) -> usize
-    requires { ⌜ 64 ≤ length (now out) ⌝ }
+    requires { ⌜ answerRoom ≤ length (now out) ⌝ }
     ensures len { λ r. ⌜ r ≡ length (receivedRow received) ⌝ }
     ensures bytes { λ _. ⌜ now (out .exit) ≡ store (now (out .entry)) 0 (receivedRow received) ⌝ }
-    ensures size { λ r. ⌜ r ≤ 64 ⌝ }
+    ensures size { λ r. ⌜ r ≤ answerRoom ⌝ }
 {
     let outcome = received.outcome;
     let head = received.head;

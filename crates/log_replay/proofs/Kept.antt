@@ -1,8 +1,8 @@
 -- After any lines the table is none, or a sound one that the rules led to. Assumes nothing.
-use Prim.Native.Nat.{ℕ, _+_, _*_, _≤_, _<_, _^_}
+use Prim.Native.Nat.{ℕ, _+_, _*_, _≤_}
 use mathlib.Core.Path.{_≡_, refl, sym, ap, _∙_}
-use mathlib.Core.Bool.{Bool, true, false}
-use mathlib.Core.List.{List, []}
+use mathlib.Core.Bool.{Bool, true}
+use mathlib.Core.List.{[]}
 use native.Mathlib.Omega.{arith}
 use borrow.Author.Tests.{eqb-true}
 use lib.Dec.{eqb}
@@ -35,10 +35,12 @@ use Rattle.calls_model.specs.Reading.{reading}
 use Rattle.calls_model.specs.Demand3.{encode}
 use Rattle.calls_model.proofs.Form.{table-form}
 use Rattle.calls_model.proofs.Step.{step-follows}
+use Rattle.line_calls.specs.Fields.{said}
+use Rattle.line_calls.proofs.Lines.{said-size}
 use Rattle.log_replay.specs.declared.Replay.{Replay}
-use Rattle.log_replay.specs.Replay.{State, said, ownNumber, ownAnswer, ownAfter, lineAfter, after, Reached, start, line as reached-line}
+use Rattle.log_replay.specs.Replay.{State, ownNumber, ownAnswer, ownAfter, lineAfter, after, Reached, start, line as reached-line}
 use Rattle.log_replay.specs.Steps.{sizeOf, stateOf}
-use Rattle.log_replay.proofs.Fields.{isRead, read-short, said-size}
+use Rattle.log_replay.proofs.Fields.{isRead, read-short}
 use Rattle.log_replay.proofs.Memory.{size-some, size-fits}
 use Rattle.log_replay.proofs.OwnLine.{accepted-count}
 use Rattle.log_replay.proofs.Lines.{no-table-bytes}

@@ -4,3 +4,4 @@ pub mod OwnLine
 pub mod Lines
 pub mod Kept
 pub mod Replayed
+pub mod Ending

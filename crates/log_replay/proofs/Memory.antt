@@ -1,8 +1,7 @@
 -- The table as the first bytes of the memory. Assumes nothing.
 use Prim.Native.Nat.{ℕ, _+_, _-_, _*_, _≤_}
 use mathlib.Core.Path.{_≡_, refl, sym, ap, _∙_}
-use mathlib.Core.Bool.{true, false}
-use mathlib.Core.List.{[], _∷_, _++_}
+use mathlib.Core.List.{_++_}
 use native.Mathlib.Omega.{arith}
 use borrow.Author.Tests.{eq-eqb, ne-eqb, eqb-true, eqb-false}
 use lib.Dec.{eqb}
@@ -14,9 +13,10 @@ use Rattle.lists.proofs.Laws.{byTest}
 use Rattle.lines.specs.Lines.{whole}
 use Rattle.log_line.specs.declared.Line.{Line}
 use Rattle.log_line.specs.Forms.{lineOf}
+use Rattle.answer_line.specs.AnswerLine.{answerRoom}
 use Rattle.log_replay.specs.declared.Replay.{Replay}
 use Rattle.log_replay.specs.declared.Stepped.{Stepped}
-use Rattle.log_replay.specs.Replay.{State, withTable, lineAnswer, lineAfter, answer, after}
+use Rattle.log_replay.specs.Replay.{withTable, lineAnswer, lineAfter, answer, after}
 use Rattle.log_replay.specs.Steps.{sizeOf, stateOf, Answered, AnsweredLine}
 
 -- ---- sizes
@@ -65,7 +65,7 @@ size-fits replay memory big few = omega (arith, size-most (replay .count) few)
 
 module _ (replay : Replay) (memory out : Bytes) (big : 46304 ≤ length memory) (few : replay .count ≤ 16) where
   -- where nothing changes
-  pub unchanged : {out′ : Bytes} {n : ℕ} (a : Bytes) → n ≡ length a → out′ ≡ store out 0 a → n ≤ 64
+  pub unchanged : {out′ : Bytes} {n : ℕ} (a : Bytes) → n ≡ length a → out′ ≡ store out 0 a → n ≤ answerRoom
       → Answered (stateOf replay memory) a memory out (record { replay = replay; len = n }) memory out′
   unchanged a len written room =
       record {
@@ -81,7 +81,7 @@ module _ (replay : Replay) (memory out : Bytes) (big : 46304 ≤ length memory) 
   pub called : (answers leaves : Bytes → Bytes) (z : ℕ) → z ≡ sizeOf (replay .count) → {n : ℕ} {v m′ out′ : Bytes}
       → n ≡ length (answers (take (z - 0) (drop 0 memory)))
       → out′ ≡ store out 0 (answers (take (z - 0) (drop 0 memory)))
-      → v ≡ leaves (take (z - 0) (drop 0 memory)) → n ≤ 64
+      → v ≡ leaves (take (z - 0) (drop 0 memory)) → n ≤ answerRoom
       → length v ≡ length (take (z - 0) (drop 0 memory))
       → m′ ≡ take 0 memory ++ (v ++ drop (z - 0) (drop 0 memory))
       → Answered (withTable (stateOf replay memory) (leaves (take (sizeOf (replay .count)) memory))) (answers (take (sizeOf (replay .count)) memory)) memory out

@@ -1,15 +1,15 @@
 -- An `own` line. Assumes nothing.
 use Prim.Native.Nat.{ℕ, _+_, _-_, _≤_, _<_}
 use mathlib.Core.Path.{_≡_, refl, sym, ap, _∙_}
-use mathlib.Core.Bool.{Bool, true, false, cond, not}
-use mathlib.Core.List.{[], _∷_, _++_}
+use mathlib.Core.Bool.{true, false, cond}
+use mathlib.Core.List.{_++_}
 use native.Mathlib.Omega.{arith}
-use borrow.Author.Tests.{eq-eqb, ne-eqb, le-leb, lt-leb, leb-true}
+use borrow.Author.Tests.{ne-eqb, le-leb, lt-leb, leb-true}
 use lib.Dec.{eqb, leb}
 use lib.ListN.{length, take, drop, replicate, length-replicate}
 use lib.Seq.{length-take-le}
 use Rattle.octets.specs.Octets.{Bytes, store}
-use Rattle.lists.proofs.Laws.{byTest, never, and-left, and-right}
+use Rattle.lists.proofs.Laws.{byTest, and-left, and-right}
 use Rattle.keccak.specs.Sponge.{keccak256}
 use Rattle.keccak.proofs.Laws.{keccak256-length}
 use Rattle.bucket_model.specs.Contents.{noContents}
@@ -17,9 +17,9 @@ use Rattle.table_model.specs.Layout.{offsetOf}
 use Rattle.table_model.proofs.Table.{length-table}
 use Rattle.table_model.proofs.Sound.{sized-table}
 use Rattle.table_model.proofs.Fresh.{fresh-form}
-use Rattle.table.specs.Init.{roomFor, initAnswer, initTable, freshTable}
+use Rattle.table.specs.Init.{initAnswer, initTable, freshTable}
 use Rattle.table.proofs.Fresh.{room}
-use Rattle.answer_line.specs.AnswerLine.{numberRow}
+use Rattle.answer_line.specs.AnswerLine.{answerRoom, numberRow}
 use Rattle.log_replay.specs.declared.Replay.{Replay}
 use Rattle.log_replay.specs.Replay.{isCount, ownNumber, ownAnswer, ownAfter}
 use Rattle.log_replay.specs.Steps.{sizeOf, stateOf, Answered}
@@ -82,7 +82,7 @@ module _ (buckets : ℕ) (key : Bytes) where
 
 -- ---- the line
 
-module _ (replay : Replay) (memory out : Bytes) (big : 46304 ≤ length memory) (few : replay .count ≤ 16) (buckets : ℕ) (key : Bytes) (k : ℕ) {out′ : Bytes} {n : ℕ} (len : n ≡ length (numberRow k)) (written : out′ ≡ store out 0 (numberRow k)) (room : n ≤ 64) where
+module _ (replay : Replay) (memory out : Bytes) (big : 46304 ≤ length memory) (few : replay .count ≤ 16) (buckets : ℕ) (key : Bytes) (k : ℕ) {out′ : Bytes} {n : ℕ} (len : n ≡ length (numberRow k)) (written : out′ ≡ store out 0 (numberRow k)) (room : n ≤ answerRoom) where
   -- after a well-formed one
   pub own-again : replay .owned ≡ true → k ≡ 21
       → Answered (ownAfter (stateOf replay memory) buckets key) (numberRow (ownAnswer (stateOf replay memory) buckets key)) memory out (record { replay = replay; len = n }) memory out′

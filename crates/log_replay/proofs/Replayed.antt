@@ -1,9 +1,9 @@
 -- Whoever steps through the chunks of a log, answers its lines one after the other and then prints, writes the replay of the log, however it is
 -- cut into chunks. Assumes nothing.
 use Prim.Native.Nat.{ℕ, _≤_}
-use mathlib.Core.Path.{_≡_, refl, sym, ap, ap₂, _∙_}
+use mathlib.Core.Path.{_≡_, refl, ap, ap₂, _∙_}
 use mathlib.Core.Bool.{false}
-use mathlib.Core.List.{List, [], _∷_, _++_, append-assoc}
+use mathlib.Core.List.{List, _∷_, _++_, append-assoc}
 use native.Mathlib.Omega.{arith}
 use lib.ListN.{length, take}
 use Rattle.octets.specs.Octets.{Bytes, store}
@@ -11,12 +11,12 @@ use Rattle.lines.specs.Lines.{limit, Held, tooLong}
 use Rattle.lines.specs.Steps.{fresh}
 use Rattle.lines.specs.Feeding.{Feeds, join}
 use Rattle.lines.proofs.Chunks.{feeds-lines}
-use Rattle.answer_line.specs.AnswerLine.{numberRow}
+use Rattle.answer_line.specs.AnswerLine.{answerRoom, numberRow}
 use Rattle.log_replay.specs.declared.Replay.{Replay}
-use Rattle.log_replay.specs.Replay.{State, startState, answer, after, ending, outputFrom, replayed}
-use Rattle.log_replay.specs.Steps.{sizeOf, stateOf, Answered, AnsweredLine, Runs, done, next}
+use Rattle.log_replay.specs.Replay.{startState, answer, after, ending, outputFrom, replayed}
+use Rattle.log_replay.specs.Steps.{sizeOf, stateOf, AnsweredLine, Runs, done, next}
 use Rattle.log_replay.proofs.Memory.{front-is, unchanged}
-use Rattle.log_replay.proofs.Kept.{Good, none, good-after}
+use Rattle.log_replay.proofs.Kept.{Good, good-after}
 
 -- before the first line
 abbrev pub startReplay : Replay
@@ -28,7 +28,7 @@ start-state memory = refl
 
 -- what `too_long` writes answers a line over the limit
 pub too-long-answered : (replay : Replay) (memory out : Bytes) → 46304 ≤ length memory → replay .count ≤ 16 → {out′ : Bytes} {n : ℕ}
-    → n ≡ length (numberRow 21) → out′ ≡ store out 0 (numberRow 21) → n ≤ 64
+    → n ≡ length (numberRow 21) → out′ ≡ store out 0 (numberRow 21) → n ≤ answerRoom
     → AnsweredLine replay tooLong memory out (record { replay = replay; len = n }) memory out′
 unfolding after answer
 too-long-answered replay memory out big few len written room = unchanged replay memory out big few (numberRow 21) len written room

@@ -6,12 +6,9 @@ use lib.Dec.{eqb, leb}
 use lib.ListN.{length}
 use Rattle.octets.specs.Octets.{Bytes}
 use Rattle.lists.specs.Lists.{first, empty}
-use Rattle.text.specs.Hex.{unhex}
 use Rattle.lines.specs.Lines.{linesOf, Held, whole, tooLong, held}
-use Rattle.log_line.specs.declared.Span.{Span}
 use Rattle.log_line.specs.declared.Line.{Line}
 use Rattle.log_line.specs.declared.Line.the-variants.{Own, Rx, Sent, Sweep, Unreadable}
-use Rattle.log_line.specs.Fields.{text}
 use Rattle.log_line.specs.Forms.{lineOf}
 use Rattle.table.specs.Init.{freshTable}
 use Rattle.history.specs.Model.{datagram, pingSent, sweep}
@@ -19,6 +16,7 @@ use Rattle.calls_model.specs.Calls.{answerOn, bytesAfter}
 use Rattle.calls_model.specs.Reading.{reading}
 use Rattle.datagram_call.specs.Received.{received}
 use Rattle.answer_line.specs.AnswerLine.{numberRow, receivedRow}
+use Rattle.line_calls.specs.Fields.{said}
 use Rattle.printout.specs.Printout.{printout}
 
 -- `owned`: a well-formed `own` has come. `table` is empty until one is accepted.
@@ -28,10 +26,6 @@ pub record State : Type 0 where
 
 abbrev pub startState : State
 startState = record { owned = false; table = [] }
-
--- the bytes whose hex is a part of a line
-unfoldable pub said : Bytes → Span → Bytes
-said line f = unhex (text line f)
 
 -- ---- `own`
 

@@ -8,6 +8,7 @@ use lib.ListN.{length, take}
 use Rattle.octets.specs.Octets.{Bytes, store}
 use Rattle.lines.specs.Lines.{Held}
 use Rattle.table_model.specs.Layout.{offsetOf}
+use Rattle.answer_line.specs.AnswerLine.{answerRoom}
 use Rattle.log_replay.specs.Replay.{State, answer, after}
 use Rattle.log_replay.specs.declared.Replay.{Replay}
 use Rattle.log_replay.specs.declared.Stepped.{Stepped}
@@ -26,7 +27,7 @@ pub record Answered (st′ : State) (a : Bytes) (memory out : Bytes) (r : Steppe
   pub len : r .len ≡ length a
   pub written : out′ ≡ store out 0 a
   pub count : r .replay .count ≤ 16
-  pub room : r .len ≤ 64
+  pub room : r .len ≤ answerRoom
 
 -- a line is answered by the rules
 abbrev pub AnsweredLine : Replay → Held → Bytes → Bytes → Stepped → Bytes → Bytes → Type 0
@@ -36,5 +37,5 @@ AnsweredLine replay l memory out = Answered (after (stateOf replay memory) l) (a
 pub data Runs : Replay → Bytes → List Held → Bytes → Replay → Bytes → Type 0 where
   done : {replay : Replay} {memory : Bytes} → Runs replay memory [] [] replay memory
   next : {replay end : Replay} {memory m′ out out′ last output : Bytes} {l : Held} {ls : List Held} {r : Stepped}
-      → 64 ≤ length out → AnsweredLine replay l memory out r m′ out′ → Runs (r .replay) m′ ls output end last
+      → answerRoom ≤ length out → AnsweredLine replay l memory out r m′ out′ → Runs (r .replay) m′ ls output end last
       → Runs replay memory (l ∷ ls) (take (r .len) out′ ++ output) end last

@@ -7,20 +7,18 @@ ghost use lib.ListN.{length};
 ghost use Rattle.octets.specs.Octets.{store};
 ghost use Rattle.lines.specs.Lines.{whole};
 ghost use Rattle.table.specs.Init.{freshTable};
-ghost use Rattle.history.specs.Model as model;
-ghost use Rattle.calls_model.specs.Calls.{answerOn, bytesAfter};
-ghost use Rattle.calls_model.specs.Reading.{reading};
-ghost use Rattle.datagram_call.specs.Received.{received};
-ghost use Rattle.answer_line.specs.AnswerLine.{numberRow, receivedRow};
-ghost use Rattle.log_replay.specs.Replay.{said, ownNumber, ownAnswer, ownAfter};
+ghost use Rattle.answer_line.specs.AnswerLine.{answerRoom, numberRow};
+ghost use Rattle.line_calls.specs.Fields.{said};
+ghost use Rattle.printout.specs.Held as held;
+ghost use Rattle.log_replay.specs.Replay.{ownNumber, ownAnswer, ownAfter, Reached, ending};
 ghost use Rattle.log_replay.specs.Steps.{sizeOf, stateOf, Answered, AnsweredLine};
 use answer_line::put_number;
-use entry::MonotonicMillis;
-use entry::UnixSeconds;
+use line_calls::decode_field;
+use line_calls::rx;
+use line_calls::sent;
+use line_calls::sweep;
 use log_line::Line;
 use log_line::Span;
-use log_line::text_of;
-use text::put_unhex;
 
 // The most buckets of a replayed table.
 pub const BUCKETS: usize = 16;
@@ -91,7 +89,7 @@ fn own(
     buckets: u64,
     key: Span,
 ) -> Stepped
-    requires { ⌜ (46304 ≤ length (now memory)) × ((64 ≤ length (now out)) × ((replay .count ≤ 16) × ((length (now line) ≤ 3000) × (key .start + key .len ≤ length (now line))))) ⌝ }
+    requires { ⌜ (46304 ≤ length (now memory)) × ((answerRoom ≤ length (now out)) × ((replay .count ≤ 16) × ((length (now line) ≤ 3000) × (key .start + key .len ≤ length (now line))))) ⌝ }
     ensures { λ r. ⌜ Answered (ownAfter (stateOf replay (now (memory .entry))) buckets (said (now (line .entry)) key)) (numberRow (ownAnswer (stateOf replay (now (memory .entry))) buckets (said (now (line .entry)) key))) (now (memory .entry)) (now (out .entry)) r (now (memory .exit)) (now (out .exit)) ⌝ }
 {
     if replay.owned {
@@ -99,7 +97,7 @@ fn own(
         return Stepped { replay, len };
     }
     let mut bytes = [0u8; 1500];
-    let n = put_unhex(&mut bytes, 0, text_of(line, key));
+    let n = decode_field(line, key, &mut bytes);
     let number = make(memory, &bytes[0..n], buckets);
     let len = put_number(out, number);
     let count = replay.count;
@@ -118,93 +116,9 @@ fn own(
     }
 }
 
-// `rx`: milliseconds, Unix seconds, address, port, signer, datagram.
-fn rx(
-    table: &mut [u8],
-    out: &mut [u8],
-    line: &[u8],
-    clock: u64,
-    unix: u64,
-    address: Span,
-    port: u16,
-    signer: Span,
-    datagram: Span,
-) -> usize
-    requires { ⌜ (64 ≤ length (now out)) × ((length (now line) ≤ 3000) × ((address .start + address .len ≤ length (now line)) × ((signer .start + signer .len ≤ length (now line)) × (datagram .start + datagram .len ≤ length (now line))))) ⌝ }
-    ensures len { λ r. ⌜ r ≡ length (receivedRow (received (now (table .entry)) clock unix (said (now (line .entry)) address) port (said (now (line .entry)) signer) (said (now (line .entry)) datagram))) ⌝ }
-    ensures written { λ _. ⌜ now (out .exit) ≡ store (now (out .entry)) 0 (receivedRow (received (now (table .entry)) clock unix (said (now (line .entry)) address) port (said (now (line .entry)) signer) (said (now (line .entry)) datagram))) ⌝ }
-    ensures bytes { λ _. ⌜ now (table .exit) ≡ bytesAfter reading (now (table .entry)) (model.datagram clock unix (said (now (line .entry)) address) port (said (now (line .entry)) signer) (said (now (line .entry)) datagram)) ⌝ }
-    ensures room { λ r. ⌜ r ≤ 64 ⌝ }
-{
-    let mut from = [0u8; 1500];
-    let a = put_unhex(&mut from, 0, text_of(line, address));
-    let mut key = [0u8; 1500];
-    let k = put_unhex(&mut key, 0, text_of(line, signer));
-    let mut bytes = [0u8; 1500];
-    let n = put_unhex(&mut bytes, 0, text_of(line, datagram));
-    let received = datagram_call::datagram_on(
-        table,
-        MonotonicMillis(clock),
-        UnixSeconds(unix),
-        &from[0..a],
-        port,
-        &key[0..k],
-        &bytes[0..n],
-    );
-    answer_line::put_received(out, received)
-}
-
-// `sent`: milliseconds, key, address, UDP port, TCP port, hash.
-fn sent(
-    table: &mut [u8],
-    out: &mut [u8],
-    line: &[u8],
-    clock: u64,
-    key: Span,
-    address: Span,
-    udp: u16,
-    tcp: u16,
-    hash: Span,
-) -> usize
-    requires { ⌜ (64 ≤ length (now out)) × ((length (now line) ≤ 3000) × ((key .start + key .len ≤ length (now line)) × ((address .start + address .len ≤ length (now line)) × (hash .start + hash .len ≤ length (now line))))) ⌝ }
-    ensures len { λ r. ⌜ r ≡ length (numberRow (answerOn reading (now (table .entry)) (model.pingSent clock (said (now (line .entry)) key) (said (now (line .entry)) address) udp tcp (said (now (line .entry)) hash)))) ⌝ }
-    ensures written { λ _. ⌜ now (out .exit) ≡ store (now (out .entry)) 0 (numberRow (answerOn reading (now (table .entry)) (model.pingSent clock (said (now (line .entry)) key) (said (now (line .entry)) address) udp tcp (said (now (line .entry)) hash)))) ⌝ }
-    ensures bytes { λ _. ⌜ now (table .exit) ≡ bytesAfter reading (now (table .entry)) (model.pingSent clock (said (now (line .entry)) key) (said (now (line .entry)) address) udp tcp (said (now (line .entry)) hash)) ⌝ }
-    ensures room { λ r. ⌜ r ≤ 64 ⌝ }
-{
-    let mut node = [0u8; 1500];
-    let k = put_unhex(&mut node, 0, text_of(line, key));
-    let mut to = [0u8; 1500];
-    let a = put_unhex(&mut to, 0, text_of(line, address));
-    let mut bytes = [0u8; 1500];
-    let n = put_unhex(&mut bytes, 0, text_of(line, hash));
-    let number = ping_sent_call::ping_sent_on(
-        table,
-        MonotonicMillis(clock),
-        &node[0..k],
-        &to[0..a],
-        udp,
-        tcp,
-        &bytes[0..n],
-    );
-    put_number(out, number)
-}
-
-// `sweep`: milliseconds.
-fn sweep(table: &mut [u8], out: &mut [u8], clock: u64) -> usize
-    requires { ⌜ 64 ≤ length (now out) ⌝ }
-    ensures len { λ r. ⌜ r ≡ length (numberRow (answerOn reading (now (table .entry)) (model.sweep clock))) ⌝ }
-    ensures written { λ _. ⌜ now (out .exit) ≡ store (now (out .entry)) 0 (numberRow (answerOn reading (now (table .entry)) (model.sweep clock))) ⌝ }
-    ensures bytes { λ _. ⌜ now (table .exit) ≡ bytesAfter reading (now (table .entry)) (model.sweep clock) ⌝ }
-    ensures room { λ r. ⌜ r ≤ 64 ⌝ }
-{
-    let number = sweep_call::sweep_on(table, MonotonicMillis(clock));
-    put_number(out, number)
-}
-
 // Answers one line, without its 0A.
 pub fn step(memory: &mut [u8], out: &mut [u8], replay: Replay, line: &[u8]) -> Stepped
-    requires { ⌜ (46304 ≤ length (now memory)) × ((64 ≤ length (now out)) × (replay .count ≤ 16)) ⌝ }
+    requires { ⌜ (46304 ≤ length (now memory)) × ((answerRoom ≤ length (now out)) × (replay .count ≤ 16)) ⌝ }
     ensures { λ r. ⌜ AnsweredLine replay (whole (now (line .entry))) (now (memory .entry)) (now (out .entry)) r (now (memory .exit)) (now (out .exit)) ⌝ }
 {
     let size = replay.size();
@@ -255,12 +169,26 @@ pub fn step(memory: &mut [u8], out: &mut [u8], replay: Replay, line: &[u8]) -> S
     Stepped { replay, len }
 }
 
+// What follows the answers: the table's printout, or nothing where there is no table.
+pub fn put_ending(out: &mut [u8], memory: &[u8], replay: Replay) -> usize
+    requires { ⌜ (held.room ≤ length (now out)) × ((46304 ≤ length (now memory)) × ((replay .count ≤ 16) × Reached (stateOf replay (now memory)))) ⌝ }
+    ensures len { λ r. ⌜ r ≡ length (ending (stateOf replay (now (memory .entry)))) ⌝ }
+    ensures written { λ _. ⌜ now (out .exit) ≡ store (now (out .entry)) 0 (ending (stateOf replay (now (memory .entry)))) ⌝ }
+    ensures room { λ r. ⌜ r ≤ held.room ⌝ }
+{
+    if replay.count == 0 {
+        return 0;
+    }
+    let size = replay.size();
+    printout::put_table(out, &memory[0..size])
+}
+
 // Answers a line over the limit; the replay and the memory stay.
 pub fn too_long(out: &mut [u8]) -> usize
-    requires { ⌜ 64 ≤ length (now out) ⌝ }
+    requires { ⌜ answerRoom ≤ length (now out) ⌝ }
     ensures len { λ r. ⌜ r ≡ length (numberRow 21) ⌝ }
     ensures written { λ _. ⌜ now (out .exit) ≡ store (now (out .entry)) 0 (numberRow 21) ⌝ }
-    ensures room { λ r. ⌜ r ≤ 64 ⌝ }
+    ensures room { λ r. ⌜ r ≤ answerRoom ⌝ }
 {
     put_number(out, 21)
 }

@@ -17,10 +17,9 @@ use Rattle.table_model.proofs.Table.{count-read, bucket-read}
 use Rattle.rlp.proofs.Writing.{Wrote}
 use Rattle.packet_parts.proofs.Progress.{Progress, concat, start, finish}
 use Rattle.text.specs.Decimals.{decimal}
-use Rattle.text.specs.Rows.{tabbed, row}
-use Rattle.rows.specs.Rows.{rowEnd}
-use Rattle.rows.proofs.Rows.{pieces, pieces-are, tabbed-append}
-use Rattle.printout.specs.Printout.{tableWord, entryTotal, replacementTotal, tableRow, entryRow, entryRows, bucketRows, bucketsRows}
+use Rattle.rows.proofs.Rows.{pieces, pieces-are}
+use Rattle.entry_row.specs.EntryRow.{entryRow}
+use Rattle.printout.specs.Printout.{tableWord, entryTotal, replacementTotal, tableRow, entryRows, bucketRows, bucketsRows}
 
 -- ---- a text that is written part by part
 
@@ -53,13 +52,7 @@ module _ (d : Bytes) (at : ℕ) (x : Bytes) where
   pub finish-one : {d′ : Bytes} {n : ℕ} → Progress d at (x ∷ []) [] d′ n → Wrote d at x d′ n
   finish-one p = finish p (append-nil x)
 
--- ---- a row that is written in four parts
-
-pub row-parts : (word : Bytes) (a : List Bytes) (f : Bytes) (b c : List Bytes)
-    → concat ((word ++ tabbed a) ∷ (0x09 ∷ f) ∷ tabbed b ∷ (tabbed c ++ rowEnd) ∷ []) ≡ row word (a ++ (f ∷ (b ++ c)))
-row-parts word a f b c =
-    let end : f ++ (tabbed b ++ (tabbed c ++ rowEnd)) ≡ f ++ (tabbed b ++ tabbed c) ++ rowEnd = simp append-assoc in
-    simp (tabbed-append, append-assoc, append-nil) (ap (λ (t : Bytes). word ++ (tabbed a ++ (0x09 ∷ t))) end)
+-- ---- the row of the table
 
 pub head-parts : (s : Bytes) {count clock entries replacements : ℕ}
     → count ≡ countOf s → clock ≡ clockOf s → entries ≡ entryTotal (bucketsOf s) → replacements ≡ replacementTotal (bucketsOf s)

@@ -4,57 +4,28 @@ use mathlib.Core.Bool.{true}
 use mathlib.Core.List.{List, [], _∷_}
 use Prim.Native.Nat.{ℕ, suc, _+_, _-_, _*_, _≤_, _<_}
 use native.Mathlib.Omega.{arith}
-use lib.ListN.{length, getD, length-append, length-take}
+use lib.ListN.{length, getD, length-append}
 use Rattle.octets.specs.Octets.{Bytes, IsBytes}
 use Rattle.lists.specs.Lists.{All}
 use Rattle.lists.proofs.Laws.{at-All}
 use Rattle.text.specs.Decimals.{decimal}
-use Rattle.text.specs.Hex.{hex}
 use Rattle.text.proofs.Decimals.{length-below, length-bound}
-use Rattle.text.proofs.Hex.{length-hex}
-use Rattle.rows.specs.Rows.{entryWord, replacementWord, keyText, pingText}
-use Rattle.rows.proofs.Rows.{length-row, key-bound, ping-bound}
+use Rattle.rows.specs.Rows.{entryWord, replacementWord}
+use Rattle.rows.proofs.Rows.{length-row}
+use Rattle.entry_row.specs.EntryRow.{entryRow}
+use Rattle.entry_row.proofs.Rows.{entry-bound}
 use Rattle.distance.specs.Distance.{home}
 use Rattle.entry.specs.declared.Entry.{Entry}
-use Rattle.entry.specs.declared.EndpointProof.{EndpointProof}
-use Rattle.entry.specs.declared.EndpointProof.the-variants.{Unproved, At}
-use Rattle.entry.proofs.Laws.{IsEntry, ProofFits}
+use Rattle.entry.proofs.Laws.{IsEntry}
 use Rattle.bucket_model.specs.Contents.{Contents, noContents}
-use Rattle.bucket_model.specs.Rules.{addressOf}
 use Rattle.bucket_model.proofs.ByteForm.{IsContents}
 use Rattle.bucket_model.proofs.Values.{sound-contents}
 use Rattle.table_model.specs.Layout.{ownOf, clockOf, countOf, numberOf, bucketsOf}
 use Rattle.table_model.specs.Sound.{tableSound}
 use Rattle.table_model.proofs.Sound.{sound-is-table}
 use Rattle.table_model.proofs.Table.{count-read}
-use Rattle.printout.specs.Printout.{proofText, tableWord, entryRow, entryRows, bucketRows, bucketsRows, entryTotal, replacementTotal, tableRow, printout}
+use Rattle.printout.specs.Printout.{tableWord, entryRows, bucketRows, bucketsRows, entryTotal, replacementTotal, tableRow, printout}
 use Rattle.printout.specs.Held.{room}
-
-proof-bound : (p : EndpointProof) → ProofFits p → length (proofText p) ≤ 20
-proof-bound Unproved h = omega arith
-proof-bound (At t) h = length-bound (t .0) h
-
--- 4+1+3+1+2+1+16+1+32+1+5+1+5+1+20+1+20+1+20+1
-entry-bound : (word : Bytes) (number place : ℕ) (e : Entry) → length word ≤ 4 → number < 1000 → place < 100 → IsEntry e
-    → length (entryRow word number place e) ≤ 137
-unfolding entryRow
-entry-bound word number place e hw hn hp is =
-    let texts : List Bytes = decimal number ∷ decimal place ∷ keyText (e .key) ∷ hex (addressOf (e .endpoint)) ∷ decimal (e .endpoint .udp) ∷ decimal (e .endpoint .tcp) ∷ decimal (e .seen .0) ∷ proofText (e .proof) ∷ pingText (e .ping) ∷ [] in
-    omega (
-      arith,
-      length-row word texts,
-      length-below 2 number hn,
-      length-below 1 place hp,
-      key-bound (e .key),
-      length-hex (addressOf (e .endpoint)),
-      length-take (e .endpoint .len) (e .endpoint .address),
-      is .address,
-      length-below 4 (e .endpoint .udp) (omega (arith, is .udp)),
-      length-below 4 (e .endpoint .tcp) (omega (arith, is .tcp)),
-      length-bound (e .seen .0) (is .seen),
-      proof-bound (e .proof) (is .proof),
-      ping-bound (e .ping) (is .ping),
-    )
 
 entries-bound : (word : Bytes) (number place : ℕ) (es : List Entry) → length word ≤ 4 → number < 1000 → place + length es ≤ 100 → All IsEntry es
     → length (entryRows word number place es) ≤ length es * 137

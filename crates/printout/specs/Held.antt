@@ -3,13 +3,9 @@ use Prim.Native.Nat.{ℕ, _+_, _*_, _≤_}
 use lib.ListN.{length, getD}
 use Rattle.octets.specs.Octets.{Bytes}
 use Rattle.lists.specs.Lists.{All}
-use Rattle.entry.specs.declared.Entry.{Entry}
+use Rattle.entry_row.specs.EntryRow.{HasAddress}
 use Rattle.bucket_model.specs.Contents.{entriesAt}
 use Rattle.table_model.specs.Layout.{offsetOf}
-
--- the address is a part of its 16 bytes
-abbrev pub HasAddress : Entry → Type 0
-HasAddress e = e .endpoint .len ≤ 16
 
 -- n entries from index at, each with an address
 pub record EntriesIn (s : Bytes) (at n : ℕ) : Type 0 where

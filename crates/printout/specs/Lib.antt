@@ -1,3 +1,2 @@
 pub mod Printout
-pub mod Parts
 pub mod Held

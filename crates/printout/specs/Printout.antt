@@ -1,51 +1,20 @@
 -- The printout of a table. Document 01, "Log and printout": "buckets rising, in each the seats from the head, then its `wait` lines, places
--- counted from 1". "Fields: buckets, clock, seats, waiting; then distance, place, first 8 key bytes, address, ports, last seen, proof (`-` if
--- none), `quiet` or the millisecond."
+-- counted from 1". "Fields: buckets, clock, seats, waiting; then .." those of an entry's row.
 use Prim.Native.Nat.{ℕ, suc, _+_, _-_}
 use mathlib.Core.List.{List, [], _∷_, _++_}
 use lib.ListN.{length}
 use Rattle.octets.specs.Octets.{Bytes}
 use Rattle.text.specs.Decimals.{decimal}
-use Rattle.text.specs.Hex.{hex}
 use Rattle.text.specs.Rows.{row}
-use Rattle.rows.specs.Rows.{entryWord, replacementWord, keyText, pingText}
+use Rattle.rows.specs.Rows.{entryWord, replacementWord}
+use Rattle.entry_row.specs.EntryRow.{entryRow}
 use Rattle.entry.specs.declared.Entry.{Entry}
-use Rattle.entry.specs.declared.EndpointProof.{EndpointProof}
-use Rattle.entry.specs.declared.EndpointProof.the-variants.{Unproved, At}
 use Rattle.bucket_model.specs.Contents.{Contents}
-use Rattle.bucket_model.specs.Rules.{addressOf}
 use Rattle.table_model.specs.Layout.{clockOf, countOf, bucketsOf}
-
--- ---- the words
 
 -- `table`
 abbrev pub tableWord : Bytes
 tableWord = 0x74 ∷ 0x61 ∷ 0x62 ∷ 0x6c ∷ 0x65 ∷ []
-
--- `-`
-abbrev pub noProof : Bytes
-noProof = 0x2d ∷ []
-
--- ---- one entry
-
--- "proof (`-` if none)"
-abbrev pub proofText : EndpointProof → Bytes
-proofText Unproved = noProof
-proofText (At t) = decimal (t .0)
-
--- "distance, place, first 8 key bytes, address, ports, last seen, proof, .."; the distance is the logarithmic one, the number of the bucket
-unfoldable pub entryRow : Bytes → ℕ → ℕ → Entry → Bytes
-entryRow word number place e =
-    row word (decimal number
-    ∷ decimal place
-    ∷ keyText (e .key)
-    ∷ hex (addressOf (e .endpoint))
-    ∷ decimal (e .endpoint .udp)
-    ∷ decimal (e .endpoint .tcp)
-    ∷ decimal (e .seen .0)
-    ∷ proofText (e .proof)
-    ∷ pingText (e .ping)
-    ∷ [])
 
 -- ---- the buckets
 

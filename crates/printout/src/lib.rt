@@ -1,28 +1,19 @@
 // The printout of a table in lent bytes, as text.
 ghost use mathlib.Core.Path.{_≡_};
 ghost use mathlib.Core.Bool.{true};
-ghost use mathlib.Core.List.{_∷_};
 ghost use Prim.Native.Nat.{_+_, _-_, _≤_, _<_};
 ghost use lib.ListN.{length};
 ghost use Rattle.octets.specs.Octets.{store};
 ghost use Rattle.bucket_model.specs.Contents.{entriesAt};
 ghost use Rattle.table_model.specs.Layout.{countOf, bucketAt, bucketsOf};
 ghost use Rattle.table_model.specs.Sound.{tableSound};
-ghost use Rattle.printout.specs.Printout.{proofText, entryRow, entryRows, bucketRows, bucketsRows, entryTotal, replacementTotal, tableRow, printout};
-ghost use Rattle.printout.specs.Parts.{placeText, endpointText, timesText};
-ghost use Rattle.printout.specs.Held.{HasAddress, EntriesIn, BucketIn, room};
-use entry::Endpoint;
-use entry::EndpointProof;
+ghost use Rattle.printout.specs.Printout.{entryRows, bucketRows, bucketsRows, entryTotal, replacementTotal, tableRow, printout};
+ghost use Rattle.printout.specs.Held.{EntriesIn, BucketIn, room};
 use entry::Entry;
-use entry::MonotonicMillis;
-use entry::PingState;
+use entry_row::put_entry;
 use rows::decimal_field;
-use rows::hex_field;
-use rows::key_field;
-use rows::ping_field;
 use rows::put_end;
 use rows::put_word;
-use rows::word_field;
 
 // The bytes that the printout of a table of up to 16 buckets can take: a row of 37 bytes, and 16 × 20 rows of 137.
 pub const ROOM: usize = 37 + 16 * 20 * 137;
@@ -35,77 +26,6 @@ pub fn asked_room() -> usize
 }
 
 // Each function that writes does so from index `at`, and returns the index after its text.
-
-// A field that is a proof.
-fn proof_field(out: &mut [u8], at: usize, proof: EndpointProof) -> usize
-    requires { ⌜ at + length (0x09 ∷ proofText proof) ≤ length (now out) ⌝ }
-    ensures next { λ r. ⌜ r ≡ at + length (0x09 ∷ proofText proof) ⌝ }
-    ensures bytes { λ _. ⌜ now (out .exit) ≡ store (now (out .entry)) at (0x09 ∷ proofText proof) ⌝ }
-{
-    match proof {
-        EndpointProof::Unproved => word_field(out, at, b"-"),
-        EndpointProof::At(t) => decimal_field(out, at, t.0),
-    }
-}
-
-// The address and the ports.
-fn put_endpoint(out: &mut [u8], at: usize, endpoint: Endpoint) -> usize
-    requires { ⌜ (endpoint .len ≤ 16) × (at + length (endpointText endpoint) ≤ length (now out)) ⌝ }
-    ensures next { λ r. ⌜ r ≡ at + length (endpointText endpoint) ⌝ }
-    ensures bytes { λ _. ⌜ now (out .exit) ≡ store (now (out .entry)) at (endpointText endpoint) ⌝ }
-{
-    let address = endpoint.address;
-    let len = endpoint.len as usize;
-    let next = hex_field(out, at, &address[..len]);
-    let next = decimal_field(out, next, endpoint.udp as u64);
-    decimal_field(out, next, endpoint.tcp as u64)
-}
-
-// The word, the distance and the place.
-fn put_place(out: &mut [u8], at: usize, word: &[u8], number: usize, place: usize) -> usize
-    requires { ⌜ at + length (placeText (now word) number place) ≤ length (now out) ⌝ }
-    ensures next { λ r. ⌜ r ≡ at + length (placeText (now (word .entry)) number place) ⌝ }
-    ensures bytes { λ _. ⌜ now (out .exit) ≡ store (now (out .entry)) at (placeText (now (word .entry)) number place) ⌝ }
-{
-    let next = put_word(out, at, word);
-    let next = decimal_field(out, next, number as u64);
-    decimal_field(out, next, place as u64)
-}
-
-// Last seen, proof and ping, and the end of the row.
-fn put_times(
-    out: &mut [u8],
-    at: usize,
-    seen: MonotonicMillis,
-    proof: EndpointProof,
-    ping: PingState,
-) -> usize
-    requires { ⌜ at + length (timesText seen proof ping) ≤ length (now out) ⌝ }
-    ensures next { λ r. ⌜ r ≡ at + length (timesText seen proof ping) ⌝ }
-    ensures bytes { λ _. ⌜ now (out .exit) ≡ store (now (out .entry)) at (timesText seen proof ping) ⌝ }
-{
-    let next = decimal_field(out, at, seen.0);
-    let next = proof_field(out, next, proof);
-    let next = ping_field(out, next, ping);
-    put_end(out, next)
-}
-
-// The row of an entry.
-fn put_entry(out: &mut [u8], at: usize, word: &[u8], number: usize, place: usize, e: Entry) -> usize
-    requires { ⌜ HasAddress e × (at + length (entryRow (now word) number place e) ≤ length (now out)) ⌝ }
-    ensures next { λ r. ⌜ r ≡ at + length (entryRow (now (word .entry)) number place e) ⌝ }
-    ensures bytes { λ _. ⌜ now (out .exit) ≡ store (now (out .entry)) at (entryRow (now (word .entry)) number place e) ⌝ }
-{
-    let key = e.key;
-    let endpoint = e.endpoint;
-    let seen = e.seen;
-    let proof = e.proof;
-    let ping = e.ping;
-    let next = put_place(out, at, word, number, place);
-    let next = key_field(out, next, key);
-    let next = put_endpoint(out, next, endpoint);
-    put_times(out, next, seen, proof, ping)
-}
 
 // The rows of the `n` entries whose bytes start at index `from` of the table.
 fn put_entries(

@@ -1,6 +1,6 @@
 -- The program stays ready from line to line. Assumes nothing.
 use Prim.Native.Nat.{ℕ, _+_, _≤_}
-use mathlib.Core.Path.{_≡_, sym, ap, _∙_}
+use mathlib.Core.Path.{_≡_, ap}
 use mathlib.Core.Bool.{true}
 use native.Mathlib.Omega.{arith}
 use lib.ListN.{length}
@@ -9,9 +9,10 @@ use Rattle.octets.proofs.Laws.{length-store}
 use Rattle.lines.specs.Lines.{Held}
 use Rattle.lines.specs.declared.Begun.{Begun}
 use Rattle.lines.specs.Steps.{fresh}
+use Rattle.answer_line.specs.AnswerLine.{answerRoom}
 use Rattle.log_replay.specs.declared.Replay.{Replay}
 use Rattle.log_replay.specs.declared.Stepped.{Stepped}
-use Rattle.log_replay.specs.Replay.{after, Reached, start, line}
+use Rattle.log_replay.specs.Replay.{after, start, line}
 use Rattle.log_replay.specs.Steps.{stateOf, AnsweredLine}
 use Rattle.log_replay.proofs.Replayed.{startReplay, start-state}
 use Rattle.replay.specs.declared.Progress.{Progress}
@@ -36,7 +37,7 @@ at-start memory buffer out replay b em eb eo er e =
 
 -- a line was answered, at an index of the output with room for it
 pub after-line : {memory buffer out m′ o o′ : Bytes} {p : Progress} {r : Stepped} (l : Held) → Ready memory buffer out p
-    → AnsweredLine (p .replay) l memory o r m′ o′ → (out′ : Bytes) (at next : ℕ) (b : Begun) → b ≡ fresh → at + 64 ≤ length out → length out′ ≡ length out
+    → AnsweredLine (p .replay) l memory o r m′ o′ → (out′ : Bytes) (at next : ℕ) (b : Begun) → b ≡ fresh → at + answerRoom ≤ length out → length out′ ≡ length out
     → Ready m′ buffer out′ (record { replay = r .replay; begun = b; used = at + r .len; at = next; more = true })
 after-line {memory} {p = p} l h a out′ at next b eb room same =
     record {

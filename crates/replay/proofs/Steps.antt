@@ -1,6 +1,6 @@
 -- What a step of the splitter finds lies in the chunk and in the buffer. Assumes nothing.
 use Prim.Native.Nat.{ℕ, _+_, _≤_, _<_}
-use mathlib.Core.Path.{_≡_, sym, ap, _∙_}
+use mathlib.Core.Path.{_≡_, ap}
 use mathlib.Core.Bool.{true, false}
 use native.Mathlib.Omega.{arith}
 use borrow.Author.Tests.{ltb-true}
@@ -9,11 +9,9 @@ use lib.ListN.{length, drop}
 use Rattle.octets.specs.Octets.{Bytes}
 use Rattle.lists.proofs.Laws.{byTest}
 use Rattle.lines.specs.declared.Begun.{Begun}
-use Rattle.lines.specs.declared.Step.{Step}
 use Rattle.lines.specs.declared.Step.the-variants as step
-use Rattle.lines.specs.declared.Last.{Last}
 use Rattle.lines.specs.declared.Last.the-variants as last
-use Rattle.lines.specs.Steps.{piece, grown, ended, stepOf, lastOf}
+use Rattle.lines.specs.Steps.{piece, grown, stepOf, lastOf}
 use Rattle.lines.proofs.Laws.{grown-size}
 use Rattle.replay.specs.declared.Progress.{Progress}
 use Rattle.replay.specs.Progress.{left}

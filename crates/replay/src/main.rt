@@ -5,6 +5,7 @@ ghost use mathlib.Core.Bool.{true, false};
 ghost use Prim.Native.Nat.{_+_, _≤_, _<_};
 ghost use lib.ListN.{length};
 ghost use Rattle.lines.specs.Steps.{fresh};
+ghost use Rattle.answer_line.specs.AnswerLine.{answerRoom};
 ghost use Rattle.log_replay.specs.Replay.{Reached};
 ghost use Rattle.log_replay.specs.Steps.{stateOf};
 ghost use Rattle.replay.specs.Progress.{Ready, left};
@@ -36,7 +37,7 @@ fn write_out(bytes: &[u8]) {
 // Where the next answer goes: the output is written out where it might find no room.
 fn make_room(out: &[u8], used: usize) -> usize
     requires { ⌜ (65536 ≤ length (now out)) × (used ≤ length (now out)) ⌝ }
-    ensures { λ r. ⌜ r + 64 ≤ length (now (out .entry)) ⌝ }
+    ensures { λ r. ⌜ r + answerRoom ≤ length (now (out .entry)) ⌝ }
 {
     if used <= 65472 {
         return used;
@@ -204,11 +205,7 @@ fn answer_last(memory: &mut [u8], buffer: &[u8], out: &mut [u8], p: Progress) ->
 fn print_table(memory: &[u8], out: &mut [u8], replay: Replay)
     requires { ⌜ (46304 ≤ length (now memory)) × ((65536 ≤ length (now out)) × ((replay .count ≤ 16) × Reached (stateOf replay (now memory)))) ⌝ }
 {
-    if replay.count == 0 {
-        return;
-    }
-    let size = replay.size();
-    let n = printout::put_table(out, &memory[0..size]);
+    let n = log_replay::put_ending(out, memory, replay);
     write_out(&out[0..n]);
 }
 

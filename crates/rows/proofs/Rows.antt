@@ -7,13 +7,13 @@ use lib.ListN.{length, take, length-append, length-take}
 use Rattle.octets.specs.Octets.{Bytes, store}
 use Rattle.rlp.proofs.Writing.{Wrote}
 use Rattle.packet_parts.proofs.Progress.{Progress, concat, start, finish}
-use Rattle.text.specs.Rows.{tabbed, row}
+use Rattle.text.specs.Rows.{tabbed, rowEnd, row}
 use Rattle.text.proofs.Decimals.{length-bound}
 use Rattle.text.proofs.Hex.{length-hex}
 use Rattle.entry.specs.declared.PingState.{PingState}
 use Rattle.entry.specs.declared.PingState.the-variants.{Quiet, Out}
 use Rattle.entry.proofs.Laws.{PingFits}
-use Rattle.rows.specs.Rows.{rowEnd, keyText, pingText}
+use Rattle.rows.specs.Rows.{keyText, pingText}
 
 -- ---- the pieces of a row
 

@@ -7,10 +7,6 @@ use Rattle.text.specs.Hex.{hex}
 use Rattle.entry.specs.declared.PingState.{PingState}
 use Rattle.entry.specs.declared.PingState.the-variants.{Quiet, Out}
 
--- what a row ends in
-abbrev pub rowEnd : Bytes
-rowEnd = 0x0a ∷ []
-
 -- ---- the words
 
 -- `seat`, of document 01's seats

@@ -6,7 +6,8 @@ ghost use lib.ListN.{length};
 ghost use Rattle.octets.specs.Octets.{store};
 ghost use Rattle.text.specs.Decimals.{decimal};
 ghost use Rattle.text.specs.Hex.{hex};
-ghost use Rattle.rows.specs.Rows.{rowEnd, keyText, pingText};
+ghost use Rattle.text.specs.Rows.{rowEnd};
+ghost use Rattle.rows.specs.Rows.{keyText, pingText};
 use entry::PingState;
 
 // A word with no tab before it: how a row begins.

@@ -6,13 +6,14 @@ use Rattle.packet_parts.proofs.Progress.{room, step}
 use Rattle.text.specs.Decimals.{decimal}
 use Rattle.text.proofs.Decimals.{length-bound}
 use Rattle.rows.proofs.Rows.{pieces, total, Writing}
+use Rattle.answer_line.specs.AnswerLine.{answerRoom}
 use Rattle.answer_line.proofs.Lines.{begin-line, end-line}
 use borrow.Author.Needs.{needs}
 use native.Mathlib.Omega.{arith}
 use Rattle.answer_line.proofs.put_number.Statement.{statement}
 use Rattle.answer_line.proofs.put_number.Tie as tie
 
-fits : (c : tie.Start) → length (decimal (c .args .n)) + total [] + 1 ≤ 64
+fits : (c : tie.Start) → length (decimal (c .args .n)) + total [] + 1 ≤ answerRoom
 fits c = omega (arith, length-bound (c .args .n) (omega arith))
 
 begun : (c : tie.Start) → Writing (c .args .out .now) 0 (decimal (c .args .n)) [] (pieces (decimal (c .args .n)) []) (c .args .out .now) 0

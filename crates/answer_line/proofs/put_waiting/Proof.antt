@@ -7,7 +7,7 @@ use Rattle.text.specs.Decimals.{decimal}
 use Rattle.text.proofs.Decimals.{length-one}
 use lib.ListN.{length}
 use Rattle.datagram_answer.specs.declared.Standing.the-variants.{Waiting}
-use Rattle.answer_line.specs.AnswerLine.{pongFields}
+use Rattle.answer_line.specs.AnswerLine.{answerRoom, pongFields}
 use Rattle.rows.proofs.Rows.{pieces, total, Writing, key-bound, ping-bound}
 use Rattle.answer_line.proofs.Lines.{begin-line, end-line, ping-fits}
 use borrow.Author.Needs.{needs}
@@ -18,7 +18,7 @@ use Rattle.answer_line.proofs.put_waiting.Tie as tie
 abbrev fields : tie.Start → List Bytes
 fields c = pongFields (Waiting (c .args .ping)) (c .args .key)
 
-fits : (c : tie.Start) → length (decimal 0) + total (fields c) + 1 ≤ 64
+fits : (c : tie.Start) → length (decimal 0) + total (fields c) + 1 ≤ answerRoom
 fits c =
     let a = c .args in
     omega (arith, length-one 0 (omega arith), key-bound (a .key), ping-bound (a .ping) (ping-fits (a .ping) _ (c .good .1 .1 .0)))

@@ -7,6 +7,7 @@ use Rattle.packet_parts.proofs.Progress.{room, step}
 use Rattle.text.specs.Decimals.{decimal}
 use Rattle.text.proofs.Decimals.{length-one}
 use Rattle.rows.proofs.Rows.{pieces, total, Writing}
+use Rattle.answer_line.specs.AnswerLine.{answerRoom}
 use Rattle.answer_line.proofs.Lines.{begin-line, end-line}
 use borrow.Author.Needs.{needs}
 use native.Mathlib.Omega.{arith}
@@ -16,7 +17,7 @@ use Rattle.answer_line.proofs.put_words_row.Tie as tie
 abbrev fields : tie.Start → List Bytes
 fields c = c .args .word .now ∷ c .args .second .now ∷ []
 
-fits : (c : tie.Start) → length (decimal 0) + total (fields c) + 1 ≤ 64
+fits : (c : tie.Start) → length (decimal 0) + total (fields c) + 1 ≤ answerRoom
 fits c = omega (arith, length-one 0 (omega arith))
 
 begun : (c : tie.Start) → Writing (c .args .out .now) 0 (decimal 0) (fields c) (pieces (decimal 0) (fields c)) (c .args .out .now) 0

@@ -5,7 +5,8 @@ use Rattle.calls_model.specs.Calls.{answerOn, bytesAfter}
 use Rattle.calls_model.specs.Reading.{reading}
 use Rattle.datagram_call.specs.Received.{received}
 use Rattle.answer_line.specs.AnswerLine.{numberRow, receivedRow}
-use Rattle.log_replay.specs.Replay.{said, lineAfter, lineAnswer}
+use Rattle.line_calls.specs.Fields.{said}
+use Rattle.log_replay.specs.Replay.{lineAfter, lineAnswer}
 use Rattle.log_replay.proofs.Fields.{read-short, read-spans}
 use Rattle.log_replay.proofs.Memory.{unchanged, called, by-line}
 use borrow.Author.Needs.{needs}

@@ -1,0 +1,2 @@
+pub mod EntryRow
+pub mod Parts

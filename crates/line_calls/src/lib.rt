@@ -1,0 +1,109 @@
+// The call that a line of a log makes: its fields decoded, the call on a lent table, and its answer written into lent bytes.
+ghost use mathlib.Core.Path.{_≡_};
+ghost use Prim.Native.Nat.{_+_, _≤_};
+ghost use lib.ListN.{length};
+ghost use Rattle.octets.specs.Octets.{store};
+ghost use Rattle.history.specs.Model as model;
+ghost use Rattle.calls_model.specs.Calls.{answerOn, bytesAfter};
+ghost use Rattle.calls_model.specs.Reading.{reading};
+ghost use Rattle.datagram_call.specs.Received.{received};
+ghost use Rattle.answer_line.specs.AnswerLine.{answerRoom, numberRow, receivedRow};
+ghost use Rattle.line_calls.specs.Fields.{said};
+use answer_line::put_number;
+use entry::MonotonicMillis;
+use entry::UnixSeconds;
+use log_line::Span;
+
+// Writes the bytes that a field of a line spells to the start of `buf`, and returns how many there are.
+pub fn decode_field(line: &[u8], field: Span, buf: &mut [u8]) -> usize
+    requires { ⌜ (length (now line) ≤ 3000) × ((field .start + field .len ≤ length (now line)) × (1500 ≤ length (now buf))) ⌝ }
+    ensures count { λ r. ⌜ r ≡ length (said (now (line .entry)) field) ⌝ }
+    ensures bytes { λ _. ⌜ now (buf .exit) ≡ store (now (buf .entry)) 0 (said (now (line .entry)) field) ⌝ }
+    ensures most { λ r. ⌜ r ≤ 1500 ⌝ }
+{
+    text::put_unhex(buf, 0, log_line::text_of(line, field))
+}
+
+// `rx`: milliseconds, Unix seconds, address, port, signer, datagram.
+pub fn rx(
+    table: &mut [u8],
+    out: &mut [u8],
+    line: &[u8],
+    clock: u64,
+    unix: u64,
+    address: Span,
+    port: u16,
+    signer: Span,
+    datagram: Span,
+) -> usize
+    requires { ⌜ (answerRoom ≤ length (now out)) × ((length (now line) ≤ 3000) × ((address .start + address .len ≤ length (now line)) × ((signer .start + signer .len ≤ length (now line)) × (datagram .start + datagram .len ≤ length (now line))))) ⌝ }
+    ensures len { λ r. ⌜ r ≡ length (receivedRow (received (now (table .entry)) clock unix (said (now (line .entry)) address) port (said (now (line .entry)) signer) (said (now (line .entry)) datagram))) ⌝ }
+    ensures written { λ _. ⌜ now (out .exit) ≡ store (now (out .entry)) 0 (receivedRow (received (now (table .entry)) clock unix (said (now (line .entry)) address) port (said (now (line .entry)) signer) (said (now (line .entry)) datagram))) ⌝ }
+    ensures bytes { λ _. ⌜ now (table .exit) ≡ bytesAfter reading (now (table .entry)) (model.datagram clock unix (said (now (line .entry)) address) port (said (now (line .entry)) signer) (said (now (line .entry)) datagram)) ⌝ }
+    ensures room { λ r. ⌜ r ≤ answerRoom ⌝ }
+{
+    let mut from = [0u8; 1500];
+    let a = decode_field(line, address, &mut from);
+    let mut key = [0u8; 1500];
+    let k = decode_field(line, signer, &mut key);
+    let mut bytes = [0u8; 1500];
+    let n = decode_field(line, datagram, &mut bytes);
+    let received = datagram_call::datagram_on(
+        table,
+        MonotonicMillis(clock),
+        UnixSeconds(unix),
+        &from[0..a],
+        port,
+        &key[0..k],
+        &bytes[0..n],
+    );
+    answer_line::put_received(out, received)
+}
+
+// `sent`: milliseconds, key, address, UDP port, TCP port, hash.
+pub fn sent(
+    table: &mut [u8],
+    out: &mut [u8],
+    line: &[u8],
+    clock: u64,
+    key: Span,
+    address: Span,
+    udp: u16,
+    tcp: u16,
+    hash: Span,
+) -> usize
+    requires { ⌜ (answerRoom ≤ length (now out)) × ((length (now line) ≤ 3000) × ((key .start + key .len ≤ length (now line)) × ((address .start + address .len ≤ length (now line)) × (hash .start + hash .len ≤ length (now line))))) ⌝ }
+    ensures len { λ r. ⌜ r ≡ length (numberRow (answerOn reading (now (table .entry)) (model.pingSent clock (said (now (line .entry)) key) (said (now (line .entry)) address) udp tcp (said (now (line .entry)) hash)))) ⌝ }
+    ensures written { λ _. ⌜ now (out .exit) ≡ store (now (out .entry)) 0 (numberRow (answerOn reading (now (table .entry)) (model.pingSent clock (said (now (line .entry)) key) (said (now (line .entry)) address) udp tcp (said (now (line .entry)) hash)))) ⌝ }
+    ensures bytes { λ _. ⌜ now (table .exit) ≡ bytesAfter reading (now (table .entry)) (model.pingSent clock (said (now (line .entry)) key) (said (now (line .entry)) address) udp tcp (said (now (line .entry)) hash)) ⌝ }
+    ensures room { λ r. ⌜ r ≤ answerRoom ⌝ }
+{
+    let mut node = [0u8; 1500];
+    let k = decode_field(line, key, &mut node);
+    let mut to = [0u8; 1500];
+    let a = decode_field(line, address, &mut to);
+    let mut bytes = [0u8; 1500];
+    let n = decode_field(line, hash, &mut bytes);
+    let number = ping_sent_call::ping_sent_on(
+        table,
+        MonotonicMillis(clock),
+        &node[0..k],
+        &to[0..a],
+        udp,
+        tcp,
+        &bytes[0..n],
+    );
+    put_number(out, number)
+}
+
+// `sweep`: milliseconds.
+pub fn sweep(table: &mut [u8], out: &mut [u8], clock: u64) -> usize
+    requires { ⌜ answerRoom ≤ length (now out) ⌝ }
+    ensures len { λ r. ⌜ r ≡ length (numberRow (answerOn reading (now (table .entry)) (model.sweep clock))) ⌝ }
+    ensures written { λ _. ⌜ now (out .exit) ≡ store (now (out .entry)) 0 (numberRow (answerOn reading (now (table .entry)) (model.sweep clock))) ⌝ }
+    ensures bytes { λ _. ⌜ now (table .exit) ≡ bytesAfter reading (now (table .entry)) (model.sweep clock) ⌝ }
+    ensures room { λ r. ⌜ r ≤ answerRoom ⌝ }
+{
+    let number = sweep_call::sweep_on(table, MonotonicMillis(clock));
+    put_number(out, number)
+}
