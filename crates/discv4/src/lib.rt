@@ -2,19 +2,12 @@
 
 // ---- the table's calls
 // `init` makes lent bytes a fresh table. `datagram`, `ping_sent` and `sweep` count their answers in lent counters, `closest` fills a lent
-// list; the forms with `_with` take counters or list by value.
-pub use closest_call::Found;
+// list. Callers inside the repository have forms that take counters or list by value: crates counted_calls and closest_call.
 pub use closest_call::Listed;
 pub use closest_call::closest;
-pub use closest_call::closest_with;
-pub use counted_calls::Counted;
-pub use counted_calls::CountedNumber;
 pub use counted_calls::datagram;
-pub use counted_calls::datagram_with;
 pub use counted_calls::ping_sent;
-pub use counted_calls::ping_sent_with;
 pub use counted_calls::sweep;
-pub use counted_calls::sweep_with;
 pub use table::init;
 // the answers
 pub use datagram_answer::Outcome;

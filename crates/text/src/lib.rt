@@ -5,7 +5,7 @@ ghost use lib.ListN.{length};
 ghost use Rattle.octets.specs.Octets.{store};
 ghost use Rattle.text.specs.Decimals.{decimal, digitsFrom, wellBegun, decimalOf};
 ghost use Rattle.text.specs.Decimals as spec;
-ghost use Rattle.text.specs.Hex.{hex, hexDigit, isHexDigit, hexPairs, isHex, hexValue, unhex};
+ghost use Rattle.text.specs.Hex.{hex, hexDigit, isHexDigit, isHex, hexValue, unhex};
 ghost use mathlib.Core.List.{[], _∷_};
 
 // The number of digits of a decimal.
