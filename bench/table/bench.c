@@ -1,25 +1,19 @@
-// Closest and sweep over a table, beside the hashing of every held key with the same keccak256. The keys are found by trying: each
+// Closest and sweep over a table through the C boundary, beside the hashing of every held key with the same keccak256. The keys are found by trying: each
 // bucket's are hashes that share one bit less with the own one, so that of 256 buckets only the highest can be filled. The candidates take
 // turns in short batches, and the best batch of each counts. Before that, closest is compared with a plain sort.
-#include <stdbool.h>
-#include <stddef.h>
-#include <stdint.h>
 #include <stdio.h>
 #include <stdlib.h>
-#include <string.h>
 #include <time.h>
 
-void keccak256_into(const uint8_t *message, size_t n, uint8_t *out);
-uint8_t table_init(uint8_t *table, size_t n, const uint8_t *key, size_t m, size_t count);
-uint8_t table_swept(uint8_t *table, size_t n, uint64_t millis);
-size_t table_nearest(const uint8_t *table, size_t n, const uint8_t *target);
-uint64_t table_nearest_at(const uint8_t *table, size_t n, const uint8_t *target, size_t i);
+#include "../../include/coghammer.h"
 
 enum { FULL = 16, PLACES = 20, ENTRIES = 16, BUCKET = 2862, TURNS = 300 };
 
 static uint8_t keys[FULL][PLACES][64]; // by bucket, the highest last
 static uint8_t own_key[64], own[32];
-static uint8_t table[512 + 256 * BUCKET], spare[512 + 256 * BUCKET];
+static uint8_t table[COGHAMMER_TABLE_SIZE(256)], spare[COGHAMMER_TABLE_SIZE(256)];
+static coghammer_counters counters;
+static coghammer_node list[16];
 
 static double now(void) {
     struct timespec t;
@@ -38,10 +32,10 @@ static void find_keys(void) {
     int found[FULL] = {0}, left = FULL * PLACES;
     uint8_t key[64] = {0}, hash[32];
     for (int i = 0; i < 64; i++) own_key[i] = (uint8_t)(i * 5 + 1);
-    keccak256_into(own_key, 64, own);
+    coghammer_keccak256(own_key, 64, own);
     for (uint64_t n = 1; left; n++) {
         memcpy(key, &n, 8);
-        keccak256_into(key, 64, hash);
+        coghammer_keccak256(key, 64, hash);
         int b = bucket_of(own, hash) - (256 - FULL);
         if (b < 0 || found[b] == PLACES) continue;
         memcpy(keys[b][found[b]++], key, 64);
@@ -52,7 +46,7 @@ static void find_keys(void) {
 // `waiting` of 4 replacements in each bucket, and the pings of the first `out` entries out since 0
 static size_t fill(int count, int out) {
     size_t size = 512 + (size_t)count * BUCKET;
-    if (table_init(table, size, own_key, 64, count)) exit(1);
+    if (coghammer_init(table, size, own_key, 64, count)) exit(1);
     table[39] = 10; // clock
     for (int b = 0; b < FULL; b++) {
         uint8_t *bucket = table + 512 + (size_t)(count - FULL + b) * BUCKET;
@@ -80,44 +74,45 @@ static int nearer(const void *a, const void *b) {
     return c ? c : x - y;
 }
 
-static void compare(size_t size, int count, const uint8_t *target) {
+// closest to a key, by the hashes
+static void compare(size_t size, const uint8_t *target) {
+    uint8_t hash[32];
+    coghammer_keccak256(target, 64, hash);
     for (int i = 0; i < FULL * ENTRIES; i++) {
-        keccak256_into(keys[i / ENTRIES][i % ENTRIES], 64, distances[i]);
-        for (int j = 0; j < 32; j++) distances[i][j] ^= target[j];
+        coghammer_keccak256(keys[i / ENTRIES][i % ENTRIES], 64, distances[i]);
+        for (int j = 0; j < 32; j++) distances[i][j] ^= hash[j];
         order[i] = i;
     }
     qsort(order, FULL * ENTRIES, sizeof *order, nearer);
-    if (table_nearest(table, size, target) != 16) puts("closest: not sixteen"), exit(1);
-    for (size_t i = 0; i < 16; i++) {
-        uint64_t want = (uint64_t)(count - FULL + order[i] / ENTRIES) * 16 + order[i] % ENTRIES;
-        if (table_nearest_at(table, size, target, i) != want) puts("closest differs from a plain sort"), exit(1);
-    }
+    if (coghammer_closest(list, 16, table, size, target, 64) != 16 << 8) puts("closest: not sixteen"), exit(1);
+    for (size_t i = 0; i < 16; i++)
+        if (memcmp(list[i].key, keys[order[i] / ENTRIES][order[i] % ENTRIES], 64)) puts("closest differs from a plain sort"), exit(1);
 }
 
 static void measure(int count) {
     double best[4] = {1e18, 1e18, 1e18, 1e18};
-    uint8_t out[32], target[32];
+    uint8_t out[32], target[64];
     size_t size = fill(count, 0);
-    for (int i = 0; i < 32; i++) target[i] = (uint8_t)(i * 37 + 11);
-    for (int t = 0; t < 20; t++, target[t]++) compare(size, count, target);
+    for (int i = 0; i < 64; i++) target[i] = (uint8_t)(i * 37 + 11);
+    for (int t = 0; t < 20; t++, target[t]++) compare(size, target);
     memcpy(spare, table, size);
     fill(count, 1);
     for (int t = 0; t < TURNS; t++) {
         double start = now();
         for (int b = 0; b < FULL; b++)
-            for (int k = 0; k < PLACES; k++) keccak256_into(keys[b][k], 64, out);
+            for (int k = 0; k < PLACES; k++) coghammer_keccak256(keys[b][k], 64, out);
         double hashed = now();
-        if (table_nearest(spare, size, target) != 16) exit(1);
+        if (coghammer_closest(list, 16, spare, size, target, 64) != 16 << 8) exit(1);
         double chosen = now();
-        if (table_swept(spare, size, 10)) exit(1);
+        if (coghammer_sweep(&counters, spare, size, 10)) exit(1);
         double swept = now();
-        if (table_swept(table, size, 600)) exit(1);
+        if (coghammer_sweep(&counters, table, size, 600)) exit(1);
         double changed = now();
         fill(count, 1);
         double times[4] = {hashed - start, chosen - hashed, swept - chosen, changed - swept};
         for (int i = 0; i < 4; i++)
             if (times[i] < best[i]) best[i] = times[i];
-        target[t % 32] += 3;
+        target[t % 64] += 3;
     }
     const char *names[4] = {"hashing every held key", "closest", "sweep, nothing goes", "sweep, one goes in each full bucket"};
     printf("%d buckets, the highest %d of them full: %d nodes\n", count, FULL, FULL * PLACES);
