@@ -6,11 +6,11 @@ use Rattle.datagram_answer.specs.declared.Standing.the-variants.{Tail, TookEntr
 use Rattle.datagram_answer.specs.declared.Outcome.{Outcome}
 use Rattle.datagram_answer.specs.declared.Outcome.the-variants.{Refused, Ping, Pong, FindNode, Neighbors, EnrRequest, EnrResponse}
 use Rattle.datagram_answer.specs.declared.Received.{Received}
-use Rattle.packet_parts.specs.declared.Written.{Written}
+use Rattle.written.specs.declared.Written.{Written}
 use Rattle.packet_items.specs.declared.EnrSeq.{EnrSeq}
 use Rattle.packet_items.specs.declared.EnrSeq.the-variants.{Absent, Present}
 use Rattle.closest_call.specs.declared.Listed.{Listed}
-use Rattle.packet_parts.specs.Parts.{writtenNumber, writtenSize}
+use Rattle.written.specs.Written.{writtenNumber, writtenSize}
 
 -- the answer number in the low byte, and the value above it
 abbrev pub code : ℕ → ℕ → ℕ

@@ -1,14 +1,14 @@
 // The answers of the C boundary in one number: an answer number in the low byte and a value above it.
 ghost use mathlib.Core.Path.{_≡_};
 ghost use Prim.Native.Nat.{_≤_, _<_, _^_};
-ghost use Rattle.packet_parts.specs.Parts.{writtenSize};
+ghost use Rattle.written.specs.Written.{writtenSize};
 ghost use Rattle.answer_code.specs.Codes as codes;
 ghost use Rattle.answer_code.specs.Codes.{numberIn, dueValue, standingValue, outcomeCode, listedCode, writtenCode, seqOf};
 use closest_call::Listed;
 use datagram_answer::Outcome;
 use datagram_answer::Standing;
 use packet_items::EnrSeq;
-use packet_parts::Written;
+use written::Written;
 
 // The code of an answer number and a value.
 pub fn code(number: u8, value: u32) -> u32
@@ -74,8 +74,8 @@ pub fn written_code(written: Written) -> u32
     requires { ⌜ writtenSize written < 2 ^ 24 ⌝ }
     ensures { λ r. ⌜ r ≡ writtenCode written ⌝ }
 {
-    let number = packet_parts::written_number(written);
-    let size = packet_parts::written_size(written);
+    let number = written::written_number(written);
+    let size = written::written_size(written);
     code(number, size as u32)
 }
 

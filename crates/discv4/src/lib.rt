@@ -21,18 +21,18 @@ pub use counters::count_of;
 
 // ---- packets written
 // The six bodies, and the datagram of a signature and a body; the host signs the Keccak-256 of a body.
+pub use enr_writer::write_enr_request;
+pub use enr_writer::write_enr_response;
 pub use keccak::keccak256;
+pub use node_writer::write_find_node;
+pub use node_writer::write_neighbors;
 pub use packet_join::join;
 pub use packet_parts::NodeList;
-pub use packet_parts::Written;
-pub use packet_parts::written_number;
-pub use packet_parts::written_size;
-pub use packet_writer::write_enr_request;
-pub use packet_writer::write_enr_response;
-pub use packet_writer::write_find_node;
-pub use packet_writer::write_neighbors;
-pub use packet_writer::write_ping;
-pub use packet_writer::write_pong;
+pub use ping_writer::write_ping;
+pub use ping_writer::write_pong;
+pub use written::Written;
+pub use written::written_number;
+pub use written::written_size;
 
 // ---- packets read
 // An accepted datagram's packet has numbers, and spans of the datagram: `field_part` gives the bytes of an address, a key, a target or a

@@ -19,9 +19,10 @@ use Rattle.entry.proofs.Laws.{decode-endpoint}
 use Rattle.table_model.specs.Layout.{tabulate}
 use Rattle.table_model.proofs.Records.{length-tabulate}
 use Rattle.packet_items.specs.Items.{neighborsItems, nodeItem}
-use Rattle.packet_parts.specs.Parts.{body, nodesOf, haveAddresses, writableNodes, written, writtenIn}
+use Rattle.packet_parts.specs.Parts.{body, nodesOf, haveAddresses, writableNodes}
+use Rattle.written.specs.Written.{written, writtenIn}
 use Rattle.packet_parts.specs.declared.NodeList.{NodeList}
-use Rattle.packet_writer.specs.Writers.{neighborsBody}
+use Rattle.packet_parts.specs.Writers.{neighborsBody}
 use Rattle.packet_laws.specs.Bodies.{NodeFits, NodesFit, WrittenBody, neighbors}
 use Rattle.packed_nodes.specs.Packed.{packedNode, packedAt, packedList, isPacked, canPacked}
 

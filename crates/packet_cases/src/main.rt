@@ -21,7 +21,7 @@ use libc::STDIN_FILENO;
 use libc::STDOUT_FILENO;
 use packet_items::EnrSeq;
 use packet_parts::NodeList;
-use packet_parts::Written;
+use written::Written;
 
 fn enr_seq(s: &[u8]) -> EnrSeq {
     if number(s, 11, 1) == 0 {

@@ -1,9 +1,9 @@
 // The join of a signature and a body into a datagram.
 ghost use mathlib.Core.Path.{_≡_};
-ghost use Rattle.packet_parts.specs.Parts.{written, writtenIn};
+ghost use Rattle.written.specs.Written.{written, writtenIn};
 ghost use Rattle.packet_join.specs.Join.{canJoin, datagram};
 use octets::put_bytes;
-use packet_parts::Written;
+use written::Written;
 
 fn can_join(signature: &[u8], body: &[u8]) -> bool
     ensures { λ r. ⌜ r ≡ canJoin (now (signature .entry)) (now (body .entry)) ⌝ }

@@ -26,8 +26,8 @@ use Rattle.packets.proofs.NodeLists.{neighbors-accepted}
 use Rattle.wire.specs.Datagram.{isSized, hashMatches, signatureOf, packetIn}
 use Rattle.packet_parts.specs.Parts.{body}
 use Rattle.packet_parts.proofs.Tests.{and-left, and-right}
-use Rattle.packet_writer.specs.Writers.{isRecord, content}
-use Rattle.packet_writer.proofs.Records.{record-bound, content-is}
+use Rattle.packet_parts.specs.Writers.{isRecord, content}
+use Rattle.packet_parts.proofs.Records.{record-bound, content-is}
 use Rattle.packet_join.specs.Join.{datagram}
 use Rattle.packet_join.proofs.Datagrams.{datagram-length}
 use Rattle.packet_parts.proofs.Sizes.{node-size, fields-bound}

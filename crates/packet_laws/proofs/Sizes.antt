@@ -21,8 +21,8 @@ use Rattle.packet_parts.specs.declared.NodeList.{NodeList}
 use Rattle.packet_parts.proofs.Tests.{and-left, and-right}
 use Rattle.packet_parts.proofs.Sizes.{total-size, uint-bytes, string-short, string-long, uint-width, address-size, fields-size, fields-bound, endpoint-size, node-size}
 use Rattle.packet_parts.proofs.Nodes.{few, addresses, address-is}
-use Rattle.packet_writer.specs.Writers.{isRecord, content, canPing, canPong}
-use Rattle.packet_writer.proofs.Records.{record-bound, content-is}
+use Rattle.packet_parts.specs.Writers.{isRecord, content, canPing, canPong}
+use Rattle.packet_parts.proofs.Records.{record-bound, content-is}
 use Rattle.packet_join.specs.Join.{datagram}
 use Rattle.packet_join.proofs.Datagrams.{datagram-length}
 use Rattle.packet_laws.specs.Sizes.{AllOf, Joins, ReplySizes}

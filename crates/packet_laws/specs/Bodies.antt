@@ -10,7 +10,7 @@ use Rattle.packet_items.specs.declared.EnrSeq.{EnrSeq}
 use Rattle.packet_items.specs.declared.EnrSeq.the-variants.{Absent, Present}
 use Rattle.packet_parts.specs.Parts.{nodesOf, writableNodes}
 use Rattle.packet_parts.specs.declared.NodeList.{NodeList}
-use Rattle.packet_writer.specs.Writers.{canPing, pingBody, canPong, pongBody, canFindNode, findNodeBody, neighborsBody, enrRequestBody, canEnrResponse, enrResponseBody}
+use Rattle.packet_parts.specs.Writers.{canPing, pingBody, canPong, pongBody, canFindNode, findNodeBody, neighborsBody, enrRequestBody, canEnrResponse, enrResponseBody}
 
 -- a u64 that may be missing
 abbrev pub EnrFits : EnrSeq → Type 0

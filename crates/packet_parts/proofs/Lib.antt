@@ -2,4 +2,5 @@ pub mod Tests
 pub mod Progress
 pub mod Sizes
 pub mod Nodes
-pub mod Answers
+pub mod Bodies
+pub mod Records

@@ -1,17 +1,15 @@
--- What the writers of packets share: which values can be written, the items of nodes, and what a write leaves.
+-- What the writers of packets share: which values can be written, and the items of nodes.
 use Prim.Native.Nat.{ℕ}
-use mathlib.Core.Bool.{Bool, true, _&&_, _||_, cond}
+use mathlib.Core.Bool.{Bool, true, _&&_, _||_}
 use mathlib.Core.List.{List, [], _∷_, map}
 use lib.Dec.{eqb, leb}
 use lib.ListN.{length, take}
-use Rattle.octets.specs.Octets.{Bytes, store}
+use Rattle.octets.specs.Octets.{Bytes}
 use Rattle.rlp.specs.Encoding.{Item, string}
 use Rattle.packet_items.specs.Items.{dataOf, uint, nodeItem, enrSeqItems}
 use Rattle.packet_items.specs.declared.EnrSeq.{EnrSeq}
 use Rattle.entry.specs.declared.Node.{Node}
 use Rattle.packet_parts.specs.declared.NodeList.{NodeList}
-use Rattle.packet_parts.specs.declared.Written.{Written}
-use Rattle.packet_parts.specs.declared.Written.the-variants.{Done, Short, Unwritable}
 
 -- an address is 4 or 16 bytes
 abbrev pub isAddressSize : ℕ → Bool
@@ -45,22 +43,3 @@ haveAddresses (n ∷ ns) = isAddressSize (n .endpoint .len) && haveAddresses ns
 -- at most 12 nodes, each with an address
 abbrev pub writableNodes : NodeList → Bool
 writableNodes l = leb (l .len) 12 && haveAddresses (nodesOf l)
-
--- 19 "room shorter than a writable value needs", 20 "value can't be written"
-abbrev pub writtenNumber : Written → ℕ
-writtenNumber (Done size) = 0
-writtenNumber Short = 19
-writtenNumber Unwritable = 20
-
--- the bytes that were written
-abbrev pub writtenSize : Written → ℕ
-writtenSize (Done size) = size
-writtenSize Short = 0
-writtenSize Unwritable = 0
-
--- the answer of writing bytes at the start of a buffer, and what the buffer then holds; ok says that the value can be written
-unfoldable pub written : Bool → Bytes → Bytes → Written
-written ok bytes buf = cond ok (cond (leb (length bytes) (length buf)) (Done (length bytes)) Short) Unwritable
-
-unfoldable pub writtenIn : Bool → Bytes → Bytes → Bytes
-writtenIn ok bytes buf = cond ok (cond (leb (length bytes) (length buf)) (store buf 0 bytes) buf) buf

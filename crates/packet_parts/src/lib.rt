@@ -1,4 +1,4 @@
-// What the writers of packets share: the answer, the start of a body, and the parts that more than one packet has.
+// What the writers of packets share: the start of a body, and the parts that more than one packet has.
 ghost use mathlib.Core.Path.{_≡_};
 ghost use mathlib.Core.Bool.{true};
 ghost use mathlib.Core.List.{_∷_};
@@ -7,41 +7,9 @@ ghost use lib.ListN.{length};
 ghost use Rattle.rlp.specs.Encoding.{header, encode, encodes};
 ghost use Rattle.octets.specs.Octets.{store};
 ghost use Rattle.packet_items.specs.Items.{endpoint, node, nodeItem};
-ghost use Rattle.packet_parts.specs.Parts.{isAddress, isAddressSize, fields, lastItems, nodeItems, writableNodes, writtenNumber, writtenSize};
+ghost use Rattle.packet_parts.specs.Parts.{isAddress, isAddressSize, fields, lastItems, nodeItems, writableNodes};
 use entry::Node;
 use packet_items::EnrSeq;
-
-// The answer of a writer.
-pub enum Written {
-    // Answer 0, with the number of bytes written.
-    Done(usize),
-    // Answer 19: the room is shorter than the value needs.
-    Short,
-    // Answer 20: the value can't be written.
-    Unwritable,
-}
-
-// The answer number of a write: 0, 19 or 20.
-pub fn written_number(written: Written) -> u8
-    ensures { λ r. ⌜ r ≡ writtenNumber written ⌝ }
-{
-    match written {
-        Written::Done(_) => 0,
-        Written::Short => 19,
-        Written::Unwritable => 20,
-    }
-}
-
-// How many bytes a write has written.
-pub fn written_size(written: Written) -> usize
-    ensures { λ r. ⌜ r ≡ writtenSize written ⌝ }
-{
-    match written {
-        Written::Done(size) => size,
-        Written::Short => 0,
-        Written::Unwritable => 0,
-    }
-}
 
 // The first `len` of `nodes`.
 pub struct NodeList {

@@ -2,7 +2,7 @@
 use mathlib.Core.Path.{ap, _∙_}
 use mathlib.Core.Bool.{true}
 use native.Mathlib.Omega.{arith}
-use Rattle.packet_writer.specs.Writers.{enrRequestBody}
+use Rattle.packet_parts.specs.Writers.{enrRequestBody}
 use Rattle.packet_laws.specs.Bodies.{enrRequest}
 use Rattle.answer_code.proofs.Sizes.{body-fits}
 use Rattle.answer_code.specs.Codes.{writtenCode}

@@ -2,7 +2,7 @@
 use mathlib.Core.Path.{ap, _∙_}
 use native.Mathlib.Omega.{arith}
 use Rattle.octets.proofs.Laws.{slice}
-use Rattle.packet_writer.specs.Writers.{canEnrResponse, enrResponseBody}
+use Rattle.packet_parts.specs.Writers.{canEnrResponse, enrResponseBody}
 use Rattle.packet_laws.specs.Bodies.{enrResponse}
 use Rattle.answer_code.proofs.Sizes.{body-fits}
 use Rattle.answer_code.specs.Codes.{writtenCode}

@@ -1,7 +1,7 @@
 -- `capi::coghammer_write_find_node` meets its contract. Assumes nothing.
 use mathlib.Core.Path.{ap, _∙_}
 use native.Mathlib.Omega.{arith}
-use Rattle.packet_writer.specs.Writers.{canFindNode, findNodeBody}
+use Rattle.packet_parts.specs.Writers.{canFindNode, findNodeBody}
 use Rattle.packet_laws.specs.Bodies.{findNode}
 use Rattle.answer_code.proofs.Sizes.{body-fits}
 use Rattle.answer_code.specs.Codes.{writtenCode}

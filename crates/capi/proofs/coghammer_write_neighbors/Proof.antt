@@ -5,8 +5,9 @@ use Prim.Native.Nat.{ℕ}
 use native.Mathlib.Omega.{arith}
 use borrow.Author.Tests.{not-true, not-false}
 use Rattle.octets.specs.Octets.{Bytes}
-use Rattle.packet_parts.specs.Parts.{writableNodes, written, writtenIn}
-use Rattle.packet_writer.specs.Writers.{neighborsBody}
+use Rattle.packet_parts.specs.Parts.{writableNodes}
+use Rattle.written.specs.Written.{written, writtenIn}
+use Rattle.packet_parts.specs.Writers.{neighborsBody}
 use Rattle.answer_code.specs.Codes.{code, writtenCode}
 use Rattle.packed_nodes.specs.Packed.{isPacked, packedList, canPacked}
 use Rattle.answer_code.proofs.Sizes.{body-fits}

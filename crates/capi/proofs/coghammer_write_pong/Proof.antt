@@ -1,6 +1,6 @@
 -- `capi::coghammer_write_pong` meets its contract. Assumes nothing.
 use native.Mathlib.Omega.{arith}
-use Rattle.packet_writer.specs.Writers.{canPong, pongBody}
+use Rattle.packet_parts.specs.Writers.{canPong, pongBody}
 use Rattle.packet_laws.specs.Bodies.{pong}
 use Rattle.answer_code.proofs.Sizes.{body-fits, seq-fits, by-seq}
 use borrow.Author.Needs.{needs}

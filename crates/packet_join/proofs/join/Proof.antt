@@ -4,7 +4,7 @@ use mathlib.Core.Bool.{true}
 use native.Mathlib.Omega.{arith}
 use lib.ListN.{length}
 use Rattle.keccak.specs.Sponge.{keccak256}
-use Rattle.packet_parts.proofs.Answers.{done, short, refused}
+use Rattle.written.proofs.Answers.{done, short, refused}
 use Rattle.packet_join.specs.Join.{canJoin, datagram}
 use Rattle.packet_join.proofs.Datagrams.{signature-size, datagram-length, signed, joined}
 use borrow.Author.Needs.{needs}
