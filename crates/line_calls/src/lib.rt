@@ -7,22 +7,13 @@ ghost use Rattle.history.specs.Model as model;
 ghost use Rattle.calls_model.specs.Calls.{answerOn, bytesAfter};
 ghost use Rattle.calls_model.specs.Reading.{reading};
 ghost use Rattle.datagram_call.specs.Received.{received};
+ghost use Rattle.log_line.specs.Fields.{said};
 ghost use Rattle.answer_line.specs.AnswerLine.{answerRoom, numberRow, receivedRow};
-ghost use Rattle.line_calls.specs.Fields.{said};
 use answer_line::put_number;
 use entry::MonotonicMillis;
 use entry::UnixSeconds;
 use log_line::Span;
-
-// Writes the bytes that a field of a line spells to the start of `buf`, and returns how many there are.
-pub fn decode_field(line: &[u8], field: Span, buf: &mut [u8]) -> usize
-    requires { ⌜ (length (now line) ≤ 3000) × ((field .start + field .len ≤ length (now line)) × (1500 ≤ length (now buf))) ⌝ }
-    ensures count { λ r. ⌜ r ≡ length (said (now (line .entry)) field) ⌝ }
-    ensures bytes { λ _. ⌜ now (buf .exit) ≡ store (now (buf .entry)) 0 (said (now (line .entry)) field) ⌝ }
-    ensures most { λ r. ⌜ r ≤ 1500 ⌝ }
-{
-    text::put_unhex(buf, 0, log_line::text_of(line, field))
-}
+use log_line::decode_field;
 
 // `rx`: milliseconds, Unix seconds, address, port, signer, datagram.
 pub fn rx(

@@ -5,3 +5,4 @@ pub mod Laws
 pub mod Examples
 pub mod Parting
 pub mod Numbers
+pub mod Decoded

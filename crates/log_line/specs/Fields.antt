@@ -6,6 +6,7 @@ use lib.Dec.{eqb}
 use lib.ListN.{length, getD, set, replicate}
 use Rattle.lists.specs.Lists.{all}
 use Rattle.octets.specs.Octets.{Bytes, part, store}
+use Rattle.text.specs.Hex.{unhex}
 use Rattle.log_line.specs.declared.Span.{Span}
 use Rattle.log_line.specs.declared.Fields.{Fields}
 
@@ -23,6 +24,10 @@ fields line = fieldsFrom 0 0 line
 -- the bytes of a field
 abbrev pub text : Bytes → Span → Bytes
 text line f = part line (f .start) (f .len)
+
+-- the bytes whose hex is a part of a line
+unfoldable pub said : Bytes → Span → Bytes
+said line f = unhex (text line f)
 
 -- field i, the first being 0; an empty span where there is none
 abbrev pub field : List Span → ℕ → Span

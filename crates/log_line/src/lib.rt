@@ -2,7 +2,8 @@
 ghost use mathlib.Core.Path.{_≡_};
 ghost use Prim.Native.Nat.{_+_, _-_, _^_, _≤_, _<_};
 ghost use lib.ListN.{length, take, drop};
-ghost use Rattle.log_line.specs.Fields.{span, fields, Within, counted};
+ghost use Rattle.octets.specs.Octets.{store};
+ghost use Rattle.log_line.specs.Fields.{span, fields, said, Within, counted};
 ghost use Rattle.log_line.specs.Fields as spec;
 ghost use Rattle.log_line.specs.Forms.{lineOf};
 ghost use Rattle.log_line.specs.Forms as form;
@@ -112,6 +113,16 @@ pub fn text_of(line: &[u8], f: Span) -> &[u8]
     let start = f.start;
     let end = start + f.len;
     &line[start..end]
+}
+
+// Writes the bytes that a field of a line spells to the start of `buf`, and returns how many there are.
+pub fn decode_field(line: &[u8], field: Span, buf: &mut [u8]) -> usize
+    requires { ⌜ (length (now line) ≤ 3000) × ((field .start + field .len ≤ length (now line)) × (1500 ≤ length (now buf))) ⌝ }
+    ensures count { λ r. ⌜ r ≡ length (said (now (line .entry)) field) ⌝ }
+    ensures bytes { λ _. ⌜ now (buf .exit) ≡ store (now (buf .entry)) 0 (said (now (line .entry)) field) ⌝ }
+    ensures most { λ r. ⌜ r ≤ 1500 ⌝ }
+{
+    text::put_unhex(buf, 0, text_of(line, field))
 }
 
 fn is_value(d: Decimal) -> bool

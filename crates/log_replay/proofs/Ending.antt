@@ -14,10 +14,10 @@ use Rattle.table_model.specs.Sound.{tableSound}
 use Rattle.printout.specs.Printout.{printout}
 use Rattle.printout.specs.Held.{room}
 use Rattle.printout.proofs.Sizes.{printout-fits}
-use Rattle.log_replay.specs.declared.Replay.{Replay}
+use Rattle.own_line.specs.declared.Replay.{Replay}
+use Rattle.own_line.specs.Answered.{sizeOf, stateOf}
+use Rattle.own_line.proofs.Memory.{size-some, size-fits, front-part}
 use Rattle.log_replay.specs.Replay.{Reached, ending}
-use Rattle.log_replay.specs.Steps.{sizeOf, stateOf}
-use Rattle.log_replay.proofs.Memory.{size-some, size-fits, front-part}
 use Rattle.log_replay.proofs.Kept.{reached-good, good-table}
 
 -- no table: nothing follows

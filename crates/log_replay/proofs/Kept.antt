@@ -17,8 +17,9 @@ use Rattle.lines.specs.Lines.{Held, whole, tooLong}
 use Rattle.log_line.specs.declared.Span.{Span}
 use Rattle.log_line.specs.declared.Line.{Line}
 use Rattle.log_line.specs.declared.Line.the-variants.{Own, Rx, Sent, Sweep, Unreadable}
-use Rattle.log_line.specs.Fields.{text}
+use Rattle.log_line.specs.Fields.{text, said}
 use Rattle.log_line.specs.Forms.{lineOf}
+use Rattle.log_line.proofs.Decoded.{said-size}
 use Rattle.log_line.proofs.Numbers.{Numbers, line-numbers}
 use Rattle.table_model.specs.Layout.{countOf, offsetOf}
 use Rattle.table_model.specs.Sound.{tableSound}
@@ -35,14 +36,13 @@ use Rattle.calls_model.specs.Reading.{reading}
 use Rattle.calls_model.specs.Demand3.{encode}
 use Rattle.calls_model.proofs.Form.{table-form}
 use Rattle.calls_model.proofs.Step.{step-follows}
-use Rattle.line_calls.specs.Fields.{said}
-use Rattle.line_calls.proofs.Lines.{said-size}
-use Rattle.log_replay.specs.declared.Replay.{Replay}
-use Rattle.log_replay.specs.Replay.{State, ownNumber, ownAnswer, ownAfter, lineAfter, after, Reached, start, line as reached-line}
-use Rattle.log_replay.specs.Steps.{sizeOf, stateOf}
+use Rattle.own_line.specs.declared.Replay.{Replay}
+use Rattle.own_line.specs.OwnLine.{State, ownNumber, ownAnswer, ownAfter}
+use Rattle.own_line.specs.Answered.{sizeOf, stateOf}
+use Rattle.own_line.proofs.Memory.{size-some, size-fits}
+use Rattle.own_line.proofs.OwnLine.{accepted-count}
+use Rattle.log_replay.specs.Replay.{lineAfter, after, Reached, start, line as reached-line}
 use Rattle.log_replay.proofs.Fields.{isRead, read-short}
-use Rattle.log_replay.proofs.Memory.{size-some, size-fits}
-use Rattle.log_replay.proofs.OwnLine.{accepted-count}
 use Rattle.log_replay.proofs.Lines.{no-table-bytes}
 
 abbrev rules : Bytes → ℕ → Env

@@ -1,6 +1,5 @@
 pub mod Fields
-pub mod Memory
-pub mod OwnLine
+pub mod Answered
 pub mod Lines
 pub mod Kept
 pub mod Replayed

@@ -9,6 +9,7 @@ use Rattle.lists.proofs.Laws.{never}
 use Rattle.lines.specs.Lines.{whole}
 use Rattle.log_line.specs.declared.Line.{Line}
 use Rattle.log_line.specs.declared.Line.the-variants.{Own, Rx, Sent, Sweep, Unreadable}
+use Rattle.log_line.specs.Fields.{said}
 use Rattle.log_line.specs.Forms.{lineOf}
 use Rattle.table_model.specs.Layout.{headerSound}
 use Rattle.table_model.specs.Sound.{tableSound}
@@ -19,7 +20,6 @@ use Rattle.calls_model.specs.AnyBytes.{SoundFor}
 use Rattle.calls_model.proofs.AnyBytes.{on-any-bytes}
 use Rattle.datagram_call.specs.Received.{received}
 use Rattle.answer_line.specs.AnswerLine.{numberRow, receivedRow}
-use Rattle.line_calls.specs.Fields.{said}
 use Rattle.log_replay.specs.Replay.{withTable, lineAnswer, lineAfter, answer, after}
 
 -- no bytes are no table

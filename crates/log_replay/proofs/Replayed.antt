@@ -12,10 +12,13 @@ use Rattle.lines.specs.Steps.{fresh}
 use Rattle.lines.specs.Feeding.{Feeds, join}
 use Rattle.lines.proofs.Chunks.{feeds-lines}
 use Rattle.answer_line.specs.AnswerLine.{answerRoom, numberRow}
-use Rattle.log_replay.specs.declared.Replay.{Replay}
-use Rattle.log_replay.specs.Replay.{startState, answer, after, ending, outputFrom, replayed}
-use Rattle.log_replay.specs.Steps.{sizeOf, stateOf, AnsweredLine, Runs, done, next}
-use Rattle.log_replay.proofs.Memory.{front-is, unchanged}
+use Rattle.own_line.specs.declared.Replay.{Replay}
+use Rattle.own_line.specs.OwnLine.{startState}
+use Rattle.own_line.specs.Answered.{sizeOf, stateOf}
+use Rattle.own_line.proofs.Memory.{front-is}
+use Rattle.log_replay.specs.Replay.{answer, after, ending, outputFrom, replayed}
+use Rattle.log_replay.specs.Steps.{AnsweredLine, Runs, done, next}
+use Rattle.log_replay.proofs.Answered.{unchanged}
 use Rattle.log_replay.proofs.Kept.{Good, good-after}
 
 -- before the first line

@@ -1,49 +1,20 @@
 -- The replay of a log (document 01, "Log and printout"): the answer to each line, and then the printout.
-use Prim.Native.Nat.{ℕ}
-use mathlib.Core.Bool.{Bool, true, false, cond, not, _&&_}
+use mathlib.Core.Bool.{cond}
 use mathlib.Core.List.{List, [], _∷_, _++_, map}
-use lib.Dec.{eqb, leb}
-use lib.ListN.{length}
 use Rattle.octets.specs.Octets.{Bytes}
-use Rattle.lists.specs.Lists.{first, empty}
+use Rattle.lists.specs.Lists.{empty}
 use Rattle.lines.specs.Lines.{linesOf, Held, whole, tooLong, held}
 use Rattle.log_line.specs.declared.Line.{Line}
 use Rattle.log_line.specs.declared.Line.the-variants.{Own, Rx, Sent, Sweep, Unreadable}
+use Rattle.log_line.specs.Fields.{said}
 use Rattle.log_line.specs.Forms.{lineOf}
-use Rattle.table.specs.Init.{freshTable}
 use Rattle.history.specs.Model.{datagram, pingSent, sweep}
 use Rattle.calls_model.specs.Calls.{answerOn, bytesAfter}
 use Rattle.calls_model.specs.Reading.{reading}
 use Rattle.datagram_call.specs.Received.{received}
 use Rattle.answer_line.specs.AnswerLine.{numberRow, receivedRow}
-use Rattle.line_calls.specs.Fields.{said}
+use Rattle.own_line.specs.OwnLine.{State, startState, ownAnswer, ownAfter}
 use Rattle.printout.specs.Printout.{printout}
-
--- `owned`: a well-formed `own` has come. `table` is empty until one is accepted.
-pub record State : Type 0 where
-  pub owned : Bool
-  pub table : Bytes
-
-abbrev pub startState : State
-startState = record { owned = false; table = [] }
-
--- ---- `own`
-
--- "B outside 1 to 16 gets 1"
-abbrev pub isCount : ℕ → Bool
-isCount buckets = leb 1 buckets && leb buckets 16
-
--- of the first well-formed one
-unfoldable pub ownNumber : ℕ → Bytes → ℕ
-ownNumber buckets key = first ((not (isCount buckets), 1) ∷ (not (eqb (length key) 64), 5) ∷ [])
-
--- "an `own` after any well-formed one, gets 21"
-unfoldable pub ownAnswer : State → ℕ → Bytes → ℕ
-ownAnswer st buckets key = cond (st .owned) 21 (ownNumber buckets key)
-
-unfoldable pub ownAfter : State → ℕ → Bytes → State
-ownAfter st buckets key =
-    record { owned = true; table = cond (eqb (ownAnswer st buckets key) 0) (freshTable key buckets) (st .table) }
 
 -- ---- a line, by what it says
 

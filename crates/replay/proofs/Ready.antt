@@ -10,10 +10,11 @@ use Rattle.lines.specs.Lines.{Held}
 use Rattle.lines.specs.declared.Begun.{Begun}
 use Rattle.lines.specs.Steps.{fresh}
 use Rattle.answer_line.specs.AnswerLine.{answerRoom}
-use Rattle.log_replay.specs.declared.Replay.{Replay}
-use Rattle.log_replay.specs.declared.Stepped.{Stepped}
+use Rattle.own_line.specs.declared.Replay.{Replay}
+use Rattle.own_line.specs.declared.Stepped.{Stepped}
+use Rattle.own_line.specs.Answered.{stateOf}
 use Rattle.log_replay.specs.Replay.{after, start, line}
-use Rattle.log_replay.specs.Steps.{stateOf, AnsweredLine}
+use Rattle.log_replay.specs.Steps.{AnsweredLine}
 use Rattle.log_replay.proofs.Replayed.{startReplay, start-state}
 use Rattle.replay.specs.declared.Progress.{Progress}
 use Rattle.replay.specs.Progress.{Ready}

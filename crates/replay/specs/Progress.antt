@@ -3,8 +3,8 @@ use Prim.Native.Nat.{ℕ, _+_, _-_, _≤_}
 use mathlib.Core.Bool.{cond}
 use lib.ListN.{length}
 use Rattle.octets.specs.Octets.{Bytes}
+use Rattle.own_line.specs.Answered.{stateOf}
 use Rattle.log_replay.specs.Replay.{Reached}
-use Rattle.log_replay.specs.Steps.{stateOf}
 use Rattle.replay.specs.declared.Progress.{Progress}
 
 -- the table, the line begun and the output gathered lie in their bytes, and the lines so far led to the table

@@ -6,8 +6,8 @@ ghost use Prim.Native.Nat.{_+_, _≤_, _<_};
 ghost use lib.ListN.{length};
 ghost use Rattle.lines.specs.Steps.{fresh};
 ghost use Rattle.answer_line.specs.AnswerLine.{answerRoom};
+ghost use Rattle.own_line.specs.Answered.{stateOf};
 ghost use Rattle.log_replay.specs.Replay.{Reached};
-ghost use Rattle.log_replay.specs.Steps.{stateOf};
 ghost use Rattle.replay.specs.Progress.{Ready, left};
 use libc::STDIN_FILENO;
 use libc::STDOUT_FILENO;
@@ -15,8 +15,8 @@ use lines::Begun;
 use lines::LIMIT;
 use lines::Last;
 use lines::Step;
-use log_replay::MEMORY;
-use log_replay::Replay;
+use own_line::MEMORY;
+use own_line::Replay;
 
 struct Progress {
     replay: Replay,

@@ -4,7 +4,8 @@ use Rattle.calls_model.specs.Calls.{bytesAfter}
 use Rattle.calls_model.specs.Reading.{reading}
 use Rattle.datagram_call.specs.Received.{received}
 use Rattle.answer_line.specs.AnswerLine.{receivedRow}
-use Rattle.line_calls.proofs.Lines.{decoded, answered-three}
+use Rattle.log_line.proofs.Decoded.{decoded}
+use Rattle.line_calls.proofs.Lines.{answered-three}
 use borrow.Author.Needs.{needs}
 use Rattle.line_calls.proofs.rx.Statement.{statement}
 use Rattle.line_calls.proofs.rx.Tie as tie

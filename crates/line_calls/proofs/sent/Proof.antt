@@ -3,7 +3,8 @@ use Rattle.history.specs.Model.{pingSent}
 use Rattle.calls_model.specs.Calls.{answerOn, bytesAfter}
 use Rattle.calls_model.specs.Reading.{reading}
 use Rattle.answer_line.specs.AnswerLine.{numberRow}
-use Rattle.line_calls.proofs.Lines.{decoded, answered-three}
+use Rattle.log_line.proofs.Decoded.{decoded}
+use Rattle.line_calls.proofs.Lines.{answered-three}
 use borrow.Author.Needs.{needs}
 use Rattle.line_calls.proofs.sent.Statement.{statement}
 use Rattle.line_calls.proofs.sent.Tie as tie

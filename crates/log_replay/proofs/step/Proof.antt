@@ -4,11 +4,11 @@ use Rattle.history.specs.Model.{datagram, pingSent, sweep}
 use Rattle.calls_model.specs.Calls.{answerOn, bytesAfter}
 use Rattle.calls_model.specs.Reading.{reading}
 use Rattle.datagram_call.specs.Received.{received}
+use Rattle.log_line.specs.Fields.{said}
 use Rattle.answer_line.specs.AnswerLine.{numberRow, receivedRow}
-use Rattle.line_calls.specs.Fields.{said}
 use Rattle.log_replay.specs.Replay.{lineAfter, lineAnswer}
 use Rattle.log_replay.proofs.Fields.{read-short, read-spans}
-use Rattle.log_replay.proofs.Memory.{unchanged, called, by-line}
+use Rattle.log_replay.proofs.Answered.{unchanged, called, by-line}
 use borrow.Author.Needs.{needs}
 use Rattle.log_replay.proofs.step.Statement.{statement}
 use Rattle.log_replay.proofs.step.Tie as tie

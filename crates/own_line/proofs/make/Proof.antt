@@ -1,10 +1,10 @@
--- `log_replay::make` meets its contract. Assumes nothing.
+-- `own_line::make` meets its contract. Assumes nothing.
 use mathlib.Core.Path.{refl}
-use Rattle.log_replay.proofs.OwnLine.{too-few, too-many, made}
+use Rattle.own_line.proofs.OwnLine.{too-few, too-many, made}
 use borrow.Author.Needs.{needs}
 use native.Mathlib.Omega.{arith}
-use Rattle.log_replay.proofs.make.Statement.{statement}
-use Rattle.log_replay.proofs.make.Tie as tie
+use Rattle.own_line.proofs.make.Statement.{statement}
+use Rattle.own_line.proofs.make.Tie as tie
 
 returns : tie.Need-returns
 returns c = (too-few (c .before .before .before .args .buckets) (c .before .before .before .args .key .now) (c .if1 .taken), refl)

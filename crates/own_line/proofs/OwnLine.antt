@@ -20,10 +20,10 @@ use Rattle.table_model.proofs.Fresh.{fresh-form}
 use Rattle.table.specs.Init.{initAnswer, initTable, freshTable}
 use Rattle.table.proofs.Fresh.{room}
 use Rattle.answer_line.specs.AnswerLine.{answerRoom, numberRow}
-use Rattle.log_replay.specs.declared.Replay.{Replay}
-use Rattle.log_replay.specs.Replay.{isCount, ownNumber, ownAnswer, ownAfter}
-use Rattle.log_replay.specs.Steps.{sizeOf, stateOf, Answered}
-use Rattle.log_replay.proofs.Memory.{size-some, size-most, size-fits, front-stored, front-is, front-same, front-part}
+use Rattle.own_line.specs.declared.Replay.{Replay}
+use Rattle.own_line.specs.OwnLine.{isCount, ownNumber, ownAnswer, ownAfter}
+use Rattle.own_line.specs.Answered.{sizeOf, stateOf, Answered}
+use Rattle.own_line.proofs.Memory.{size-some, size-most, size-fits, front-stored, front-is, front-same, front-part}
 
 pub length-fresh : (key : Bytes) (count : ℕ) → 1 ≤ count → count ≤ 256 → length (freshTable key count) ≡ offsetOf count
 length-fresh key count one most =

@@ -1,12 +1,12 @@
--- `line_calls::decode_field` meets its contract. Assumes nothing.
+-- `log_line::decode_field` meets its contract. Assumes nothing.
 use mathlib.Core.Path.{ap, _∙_}
 use lib.ListN.{length}
 use Rattle.octets.specs.Octets.{store}
-use Rattle.line_calls.proofs.Lines.{said-of, said-size}
+use Rattle.log_line.proofs.Decoded.{said-of, said-size}
 use borrow.Author.Needs.{needs}
 use native.Mathlib.Omega.{arith}
-use Rattle.line_calls.proofs.decode_field.Statement.{statement}
-use Rattle.line_calls.proofs.decode_field.Tie as tie
+use Rattle.log_line.proofs.decode_field.Statement.{statement}
+use Rattle.log_line.proofs.decode_field.Tie as tie
 
 put-unhex-requires : tie.Need-put-unhex-requires
 put-unhex-requires c κs =

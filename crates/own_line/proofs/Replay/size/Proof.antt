@@ -1,9 +1,9 @@
--- `log_replay::Replay::size` meets its contract. Assumes nothing.
-use Rattle.log_replay.proofs.Memory.{size-none, size-some}
+-- `own_line::Replay::size` meets its contract. Assumes nothing.
+use Rattle.own_line.proofs.Memory.{size-none, size-some}
 use borrow.Author.Needs.{needs}
 use native.Mathlib.Omega.{arith}
-use Rattle.log_replay.proofs.Replay.size.Statement.{statement}
-use Rattle.log_replay.proofs.Replay.size.Tie as tie
+use Rattle.own_line.proofs.Replay.size.Statement.{statement}
+use Rattle.own_line.proofs.Replay.size.Tie as tie
 
 returns : tie.Need-returns
 returns c = (size-none (c .before .args .self .count) (c .if1 .taken), omega arith)

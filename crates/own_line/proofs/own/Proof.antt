@@ -1,16 +1,16 @@
--- `log_replay::own` meets its contract. Assumes nothing.
+-- `own_line::own` meets its contract. Assumes nothing.
 use mathlib.Core.Path.{_≡_, refl}
 use mathlib.Core.Bool.{cond}
 use lib.Dec.{eqb}
 use Rattle.octets.specs.Octets.{store}
 use Rattle.table.specs.Init.{freshTable}
-use Rattle.line_calls.specs.Fields.{said}
-use Rattle.line_calls.proofs.Lines.{decoded}
-use Rattle.log_replay.specs.Replay.{ownNumber}
-use Rattle.log_replay.proofs.OwnLine.{own-again, own-accepted, own-refused}
+use Rattle.log_line.specs.Fields.{said}
+use Rattle.log_line.proofs.Decoded.{decoded}
+use Rattle.own_line.specs.OwnLine.{ownNumber}
+use Rattle.own_line.proofs.OwnLine.{own-again, own-accepted, own-refused}
 use borrow.Author.Needs.{needs}
-use Rattle.log_replay.proofs.own.Statement.{statement}
-use Rattle.log_replay.proofs.own.Tie as tie
+use Rattle.own_line.proofs.own.Statement.{statement}
+use Rattle.own_line.proofs.own.Tie as tie
 
 returns : tie.Need-returns
 returns c =

@@ -1,0 +1,35 @@
+-- The first line of a log, `own` (document 01, "Log and printout"): its answer, and the table that it makes.
+use Prim.Native.Nat.{ℕ}
+use mathlib.Core.Bool.{Bool, true, false, cond, not, _&&_}
+use mathlib.Core.List.{[], _∷_}
+use lib.Dec.{eqb, leb}
+use lib.ListN.{length}
+use Rattle.octets.specs.Octets.{Bytes}
+use Rattle.lists.specs.Lists.{first}
+use Rattle.table.specs.Init.{freshTable}
+
+-- `owned`: a well-formed `own` has come. `table` is empty until one is accepted.
+pub record State : Type 0 where
+  pub owned : Bool
+  pub table : Bytes
+
+abbrev pub startState : State
+startState = record { owned = false; table = [] }
+
+-- ---- `own`
+
+-- "B outside 1 to 16 gets 1"
+abbrev pub isCount : ℕ → Bool
+isCount buckets = leb 1 buckets && leb buckets 16
+
+-- of the first well-formed one
+unfoldable pub ownNumber : ℕ → Bytes → ℕ
+ownNumber buckets key = first ((not (isCount buckets), 1) ∷ (not (eqb (length key) 64), 5) ∷ [])
+
+-- "an `own` after any well-formed one, gets 21"
+unfoldable pub ownAnswer : State → ℕ → Bytes → ℕ
+ownAnswer st buckets key = cond (st .owned) 21 (ownNumber buckets key)
+
+unfoldable pub ownAfter : State → ℕ → Bytes → State
+ownAfter st buckets key =
+    record { owned = true; table = cond (eqb (ownAnswer st buckets key) 0) (freshTable key buckets) (st .table) }
