@@ -8,13 +8,12 @@ use lib.ListN.{length}
 use Rattle.octets.specs.Octets.{Bytes}
 use Rattle.lists.proofs.Laws.{byTest}
 use Rattle.packet_items.specs.declared.EnrSeq.{EnrSeq}
-use Rattle.written.specs.Written.{written, writtenIn}
+use Rattle.written.specs.Written.{written, writtenIn, writtenSize}
 use Rattle.written.specs.declared.Written.{Written}
 use Rattle.packet_join.specs.Join.{canJoin, datagram}
 use Rattle.packet_join.proofs.Datagrams.{signature-size, body-size, datagram-length}
 use Rattle.packet_laws.specs.Bodies.{EnrFits, WrittenBody}
 use Rattle.packet_laws.proofs.Sizes.{body-range}
-use Rattle.written.specs.Written.{writtenSize}
 use Rattle.answer_code.specs.Codes.{writtenCode, seqOf}
 
 size-if : (ok : Bool) (bytes buf : Bytes) → (ok ≡ true → length bytes ≤ 1280) → writtenSize (written ok bytes buf) ≤ 1280

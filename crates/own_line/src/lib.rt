@@ -14,10 +14,7 @@ use answer_line::put_number;
 use log_line::Span;
 use log_line::decode_field;
 
-// The most buckets of a replayed table.
-pub const BUCKETS: usize = 16;
-
-// The bytes that a table of so many buckets takes.
+// The bytes that a table of 16 buckets takes, the most of a replayed table.
 pub const MEMORY: usize = 46304;
 
 // `owned`: a well-formed `own` has come. `count`: the buckets of the table, 0 where no `own` was accepted.
