@@ -3,10 +3,10 @@
 use Prim.Native.Nat.{ℕ}
 use mathlib.Core.Path.{_≡_, refl, ap, sym, _∙_}
 use mathlib.Core.Logic.{inl, inr, ⊎-elim}
-use mathlib.Core.Bool.{true, false, and-false}
+use mathlib.Core.Bool.{Bool, true, false, _&&_, and-false}
 use mathlib.Core.List.{List, [], _∷_, _++_, map}
 use borrow.Author.Tests.{eq-eqb, ne-eqb, ltb-true, ltb-false}
-use lib.Dec.{ltb}
+use lib.Dec.{ltb, eqb}
 use lib.ListN.{length}
 use Rattle.octets.specs.Octets.{Bytes, sameBytes}
 use Rattle.octets.proofs.Laws.{same-eq, same-refl}
@@ -191,7 +191,7 @@ module _ (e : Env) where
         (λ h.
         let same = View.other-datagram e (r .table) (ok .sized) X key h now unix address udp bytes in
         let kn = shift-in X (record { given = r .table; call = datagram now unix address udp key bytes }) (r .log)
-        (record { no-ping = λ t z. z; no-pong = rw h; no-start = refl }) (bucketOf e (r .table) X) (known X) in
+        (record { no-ping = λ t z. z; no-pong = ap (λ (b : Bool). b && (isPong (e .read bytes unix) && eqb (answer e (r .table) (datagram now unix address udp key bytes)) 0)) h; no-start = refl }) (bucketOf e (r .table) X) (known X) in
         holds-both _ X _ _ _ same (kn .0) (kn .1))
     advance-known (pingSent now key address udp tcp hash) X =
         byTest (sameBytes X key)
