@@ -5,18 +5,18 @@ ghost use mathlib.Core.Bool.{true, false};
 ghost use Prim.Native.Nat.{_+_, _≤_, _<_};
 ghost use lib.ListN.{length};
 ghost use Rattle.lines.specs.Steps.{fresh};
-ghost use Rattle.answer_line.specs.AnswerLine.{answerRoom};
 ghost use Rattle.own_line.specs.Answered.{stateOf};
 ghost use Rattle.log_replay.specs.Replay.{Reached};
 ghost use Rattle.replay.specs.Progress.{Ready, left};
 use libc::STDIN_FILENO;
-use libc::STDOUT_FILENO;
 use lines::Begun;
 use lines::LIMIT;
 use lines::Last;
 use lines::Step;
 use own_line::MEMORY;
 use own_line::Replay;
+use replay_output::make_room;
+use replay_output::write_out;
 
 struct Progress {
     replay: Replay,
@@ -26,24 +26,6 @@ struct Progress {
     // Where the chunk goes on, and whether there is more of it.
     at: usize,
     more: bool,
-}
-
-fn write_out(bytes: &[u8]) {
-    if !io::write_all(STDOUT_FILENO, bytes) {
-        os::fail(b"write");
-    }
-}
-
-// Where the next answer goes: the output is written out where it might find no room.
-fn make_room(out: &[u8], used: usize) -> usize
-    requires { ⌜ (65536 ≤ length (now out)) × (used ≤ length (now out)) ⌝ }
-    ensures { λ r. ⌜ r + answerRoom ≤ length (now (out .entry)) ⌝ }
-{
-    if used <= 65472 {
-        return used;
-    }
-    write_out(&out[0..used]);
-    0
 }
 
 // Answers the line of `len` bytes in the buffer, after which the chunk goes on at `next`.
