@@ -11,8 +11,8 @@ use Rattle.octets.proofs.Laws.{slice-drop}
 use Rattle.rlp.specs.Encoding.{Item, encodes, Small}
 use Rattle.schema.specs.Schema.{verdict}
 use Rattle.schema.specs.Shapes.{Begins, Accepted}
-use Rattle.schema.specs.declared.Verdict.{Verdict}
-use Rattle.schema.specs.declared.Verdict.the-variants.{Good, Broken, Wrong}
+use Rattle.schema_items.specs.declared.Verdict.{Verdict}
+use Rattle.schema_items.specs.declared.Verdict.the-variants.{Good, Broken, Wrong}
 use Rattle.schema.proofs.Shapes.{AllLimited}
 use Rattle.schema.proofs.Accepted.{small-data, good-accepted, accepted-good}
 use Rattle.spans.specs.Spans.{bytesOf, spanOf}

@@ -3,7 +3,7 @@ use mathlib.Core.Path.{_≡_, refl}
 use mathlib.Core.List.{[], _∷_}
 use Rattle.octets.specs.Octets.{part, numberFrom}
 use Rattle.rlp.specs.Reading.{head, sized, long, strict, whole, count, uintOf}
-use Rattle.schema.specs.Payload.{itemsOf}
+use Rattle.schema_items.specs.Payload.{itemsOf}
 use Rattle.schema.specs.Schema.{field}
 use Rattle.spans.specs.Spans.{spanOf, itemSpan, uintItem, portItem, enrSeqItem}
 use Rattle.packets.specs.Packets.{typeOf, enrRequestOf, readAs, readData}

@@ -6,9 +6,9 @@ use mathlib.Core.List.{List}
 use lib.ListN.{length, take}
 use Rattle.octets.specs.Octets.{Bytes}
 use Rattle.schema.specs.Schema.{verdict}
-use Rattle.schema.specs.declared.Kind.{Kind}
-use Rattle.schema.specs.declared.Verdict.{Verdict}
-use Rattle.schema.specs.declared.Verdict.the-variants.{Good}
+use Rattle.schema_items.specs.declared.Kind.{Kind}
+use Rattle.schema_items.specs.declared.Verdict.{Verdict}
+use Rattle.schema_items.specs.declared.Verdict.the-variants.{Good}
 use Rattle.spans.specs.Spans.{bytesOf, moved, spanOf, portItem}
 use Rattle.packets.specs.Packets.{senderOf, isKnown, schemaOf, requiredOf, packetOf, answered, readAs}
 use Rattle.packets.specs.declared.Packet.{Packet}

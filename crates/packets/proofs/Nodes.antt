@@ -15,9 +15,9 @@ use Rattle.rlp.proofs.Reading.{item-bounds}
 use Rattle.rlp.proofs.Writing.{header-short, header-long, encode-framed, encode-list}
 use Rattle.rlp.proofs.Encoding.{read-item, encode-length, small-first, small-rest}
 use Rattle.packet_items.specs.Items.{uint, node, addressOf, nodeItem}
-use Rattle.schema.specs.Schema.{isAddress}
+use Rattle.schema_items.specs.Kinds.{isAddress}
 use Rattle.schema.specs.Shapes.{IsEndpoint, IsNode, AllNodes}
-use Rattle.schema.proofs.Payload.{items-encodes}
+use Rattle.schema_items.proofs.Payload.{items-encodes}
 use Rattle.entry.specs.declared.Node.{Node}
 use Rattle.spans.specs.Spans.{fitting, padded, nodeOf, nodesOf}
 use Rattle.packets.specs.Accepted.{NodeGood, NodesGood}

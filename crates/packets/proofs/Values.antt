@@ -13,9 +13,9 @@ use Rattle.rlp.specs.Reading.{head, extent, offset, count, uintOf}
 use Rattle.rlp.proofs.Encoding.{read-item, read-payload, encode-length, uint-read, count-encodes, offset-encodes, nth-item}
 use Rattle.packet_items.specs.Items.{dataOf, uint, endpoint}
 use Rattle.packet_items.specs.declared.EnrSeq.the-variants.{Absent, Present}
-use Rattle.schema.specs.Payload.{itemsOf}
+use Rattle.schema_items.specs.Payload.{itemsOf}
 use Rattle.schema.specs.Shapes.{IsEndpoint, Begins}
-use Rattle.schema.proofs.Payload.{items-item, items-encodes}
+use Rattle.schema_items.proofs.Payload.{items-item, items-encodes}
 use Rattle.spans.specs.Spans.{bytesOf, moved, spanOf, itemSpan, itemAt, valueOf, uintItem, portItem, enrSeqItem}
 use Rattle.packets.specs.Packets.{senderOf}
 use Rattle.spans.specs.declared.Span.{Span}

@@ -5,11 +5,11 @@ use mathlib.Core.List.{List, [], _∷_}
 use lib.Dec.{eqb}
 use Rattle.octets.specs.Octets.{Bytes}
 use Rattle.schema.specs.Schema.{verdict}
-use Rattle.schema.specs.declared.Kind.{Kind}
-use Rattle.schema.specs.declared.Kind.the-variants.{Uint, Endpoint, Nodes, Record}
-use Rattle.schema.specs.declared.Kind.the-variants as kind
-use Rattle.schema.specs.declared.Verdict.{Verdict}
-use Rattle.schema.specs.declared.Verdict.the-variants.{Good, Broken, Wrong}
+use Rattle.schema_items.specs.declared.Kind.{Kind}
+use Rattle.schema_items.specs.declared.Kind.the-variants.{Uint, Endpoint, Nodes, Record}
+use Rattle.schema_items.specs.declared.Kind.the-variants as kind
+use Rattle.schema_items.specs.declared.Verdict.{Verdict}
+use Rattle.schema_items.specs.declared.Verdict.the-variants.{Good, Broken, Wrong}
 use Rattle.spans.specs.Spans.{bytesOf, moved, spanOf, itemSpan, uintItem, portItem, enrSeqItem}
 use Rattle.packets.specs.declared.PacketType.{PacketType}
 use Rattle.packets.specs.declared.PacketType.the-variants as type

@@ -13,13 +13,13 @@ use Rattle.rlp.proofs.Encoding.{read-item, read-payload, read-sound, whole-enco
 use Rattle.rlp.specs.declared.Header.{Header}
 use Rattle.rlp.specs.declared.Header.the-variants as read
 use Rattle.packet_items.specs.Items.{dataOf}
-use Rattle.schema.specs.Payload.{itemsOf}
+use Rattle.schema_items.specs.Payload.{itemsOf}
 use Rattle.schema.specs.Schema.{fields, verdict}
 use Rattle.schema.specs.Shapes.{Begins, Accepted}
-use Rattle.schema.specs.declared.Kind.{Kind}
-use Rattle.schema.specs.declared.Verdict.{Verdict}
-use Rattle.schema.specs.declared.Verdict.the-variants.{Good, Broken}
-use Rattle.schema.proofs.Payload.{items-encodes, encodes-items, slices-items}
+use Rattle.schema_items.specs.declared.Kind.{Kind}
+use Rattle.schema_items.specs.declared.Verdict.{Verdict}
+use Rattle.schema_items.specs.declared.Verdict.the-variants.{Good, Broken}
+use Rattle.schema_items.proofs.Payload.{items-encodes, encodes-items, slices-items}
 use Rattle.schema.proofs.Shapes.{AllLimited, fields-shapes, shapes-fields}
 
 -- the items of data that fits memory are small

@@ -1,4 +1,3 @@
-pub mod Payload
 pub mod Turns
 pub mod Shapes
 pub mod Accepted

@@ -14,15 +14,16 @@ use Rattle.rlp.proofs.Encoding.{uint-read, uint-sound, whole-encodes, small-fir
 use Rattle.rlp.specs.declared.Uint as rlp-uint
 use Rattle.rlp.specs.declared.Uint.the-variants as value
 use Rattle.packet_items.specs.Items.{uint, endpoint, node}
-use Rattle.schema.specs.Payload.{itemsOf}
-use Rattle.schema.specs.Schema.{worst, goodIf, atMost, isLeaf, leaves, tuple, eachNode, nodes, isRecord, field, fields}
-use Rattle.schema.specs.Schema as schema
+use Rattle.schema_items.specs.Payload.{itemsOf}
+use Rattle.schema_items.specs.Kinds.{worst, goodIf, atMost, isLeaf, leaves, tuple, isRecord}
+use Rattle.schema_items.specs.Kinds as schema
+use Rattle.schema.specs.Schema.{eachNode, nodes, field, fields}
 use Rattle.schema.specs.Shapes.{IsEndpoint, IsUint, IsString, IsAddressItem, IsEndpointItem, IsNode, AllNodes, IsNodes, IsRecord, Shape, Shapes}
-use Rattle.schema.specs.declared.Kind.{Kind}
-use Rattle.schema.specs.declared.Kind.the-variants.{Uint, Bytes, Address, Endpoint, Nodes, Record}
-use Rattle.schema.specs.declared.Verdict.{Verdict}
-use Rattle.schema.specs.declared.Verdict.the-variants.{Good, Broken, Wrong}
-use Rattle.schema.proofs.Payload.{items-encodes, encodes-items, Slices, slices-items}
+use Rattle.schema_items.specs.declared.Kind.{Kind}
+use Rattle.schema_items.specs.declared.Kind.the-variants.{Uint, Bytes, Address, Endpoint, Nodes, Record}
+use Rattle.schema_items.specs.declared.Verdict.{Verdict}
+use Rattle.schema_items.specs.declared.Verdict.the-variants.{Good, Broken, Wrong}
+use Rattle.schema_items.proofs.Payload.{items-encodes, encodes-items, Slices, slices-items}
 
 -- ---- verdicts and tests
 

@@ -1,3 +1,2 @@
-pub mod Payload
 pub mod Schema
 pub mod Shapes

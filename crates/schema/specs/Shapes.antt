@@ -7,9 +7,9 @@ use lib.ListN.{length}
 use Rattle.octets.specs.Octets as octets
 use Rattle.rlp.specs.Encoding.{Item, string, list, encode, encodes}
 use Rattle.packet_items.specs.Items.{dataOf, uint, endpoint, node}
-use Rattle.schema.specs.Schema.{isAddress}
-use Rattle.schema.specs.declared.Kind.{Kind}
-use Rattle.schema.specs.declared.Kind.the-variants.{Uint, Bytes, Address, Endpoint, Nodes, Record}
+use Rattle.schema_items.specs.Kinds.{isAddress}
+use Rattle.schema_items.specs.declared.Kind.{Kind}
+use Rattle.schema_items.specs.declared.Kind.the-variants.{Uint, Bytes, Address, Endpoint, Nodes, Record}
 
 -- address of 4 or 16 bytes, ports of 16 bits
 pub record IsEndpoint (address : octets.Bytes) (udp tcp : ℕ) : Type 0 where

@@ -16,8 +16,8 @@ use Rattle.rlp.proofs.Reading.{InBounds, head-bounds, offset-bound, offset-brok
 use Rattle.rlp.specs.declared.Header.{Header}
 use Rattle.rlp.specs.declared.Header.the-variants as read
 use Rattle.rlp.specs.declared.Uint.{Uint}
-use Rattle.schema.specs.Payload.{itemsOf}
-use Rattle.schema.proofs.Payload.{items-item, items-broken, payload-is, count-items}
+use Rattle.schema_items.specs.Payload.{itemsOf}
+use Rattle.schema_items.proofs.Payload.{items-item, items-broken, payload-is, count-items}
 use Rattle.spans.specs.Spans.{bytesOf, moved, payloadSpan, spanOf, itemSpan, itemAt, valueOf, uintItem, nodeOf, nodesOf, nodeAt}
 use Rattle.spans.specs.declared.Span.{Span}
 

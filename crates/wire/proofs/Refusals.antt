@@ -6,8 +6,8 @@ use Rattle.octets.specs.Octets.{Bytes}
 use Rattle.lists.proofs.Laws.{byTest}
 use Rattle.entry.specs.declared.UnixSeconds.{UnixSeconds}
 use Rattle.schema.specs.Schema.{verdict}
-use Rattle.schema.specs.declared.Verdict.{Verdict}
-use Rattle.schema.specs.declared.Verdict.the-variants.{Good, Broken, Wrong}
+use Rattle.schema_items.specs.declared.Verdict.{Verdict}
+use Rattle.schema_items.specs.declared.Verdict.the-variants.{Good, Broken, Wrong}
 use Rattle.packets.specs.Packets.{typeOf, isKnown, requiredOf, schemaOf, packetOf, answered, readAs}
 use Rattle.packets.specs.declared.PacketType.{PacketType}
 use Rattle.packets.specs.declared.PacketType.the-variants as type

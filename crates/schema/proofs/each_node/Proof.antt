@@ -4,7 +4,7 @@ use mathlib.Core.Path.{_≡_, refl, _∙_}
 use native.Mathlib.Omega.{arith}
 use lib.ListN.{length}
 use Rattle.rlp.proofs.Reading.{head-at, item-at}
-use Rattle.schema.specs.Payload.{itemsOf}
+use Rattle.schema_items.specs.Payload.{itemsOf}
 use Rattle.schema.specs.Schema.{eachNode}
 use Rattle.schema.proofs.Turns.{nodes-todo, nodes-none, nodes-end, nodes-item}
 use borrow.Author.Needs.{needs}

@@ -1,6 +1,7 @@
 -- `schema::field` meets its contract. Assumes nothing.
 use mathlib.Core.Path.{ap, _∙_}
-use Rattle.schema.specs.Schema.{goodIf, field}
+use Rattle.schema_items.specs.Kinds.{goodIf}
+use Rattle.schema.specs.Schema.{field}
 use borrow.Author.Needs.{needs}
 use Rattle.schema.proofs.field.Statement.{statement}
 use Rattle.schema.proofs.field.Tie as tie

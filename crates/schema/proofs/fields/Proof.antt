@@ -5,9 +5,10 @@ use native.Mathlib.Nat.{sub-zero}
 use native.Mathlib.Omega.{arith}
 use lib.ListN.{length, take}
 use Rattle.rlp.proofs.Reading.{head-at, item-at}
-use Rattle.schema.specs.Payload.{itemsOf}
+use Rattle.schema_items.specs.Payload.{itemsOf}
+use Rattle.schema_items.specs.Kinds.{worst}
+use Rattle.schema_items.specs.declared.Kind.the-variants.{Uint}
 use Rattle.schema.specs.Schema as spec
-use Rattle.schema.specs.declared.Kind.the-variants.{Uint}
 use Rattle.schema.proofs.Turns.{todo, fields-end, fields-none, fields-item}
 use borrow.Author.Needs.{needs}
 use Rattle.schema.proofs.fields.Statement.{statement}
@@ -26,7 +27,7 @@ returns : tie.Need-returns Inv-loop μ-loop
 returns c =
     let l = c .before .before .before .before .before .before .before .before .loop in
     let a = c .before .before .before .before .before .before .before .before .before .before .args in
-    c .worst .ensures ∙ ap (spec.worst (l .verdict)) (c .before .good-if .ensures) ∙ fields-none (a .t2) (l .i) (a .n) (a .required) (a .s .now) (l .at) (l .verdict) (c .before .before .before .before .before .before .before .loop-test .taken) (search needs) (Uint 0) (head-at (a .s .now) (l .at) (c .before .before .before .before .read-header .ensures) (c .before .before .enum-told .given .1)) ∙ l .inv .1
+    c .worst .ensures ∙ ap (worst (l .verdict)) (c .before .good-if .ensures) ∙ fields-none (a .t2) (l .i) (a .n) (a .required) (a .s .now) (l .at) (l .verdict) (c .before .before .before .before .before .before .before .loop-test .taken) (search needs) (Uint 0) (head-at (a .s .now) (l .at) (c .before .before .before .before .read-header .ensures) (c .before .before .enum-told .given .1)) ∙ l .inv .1
 
 add-start : tie.Need-add-start Inv-loop μ-loop
 add-start c = omega (arith, item-at (c .before .before .before .before .before .before .before .before .before .args .s .now) (c .before .before .before .before .before .before .before .loop .at) (c .before .before .before .before .before .before .before .loop .inv .0) (head-at (c .before .before .before .before .before .before .before .before .before .args .s .now) (c .before .before .before .before .before .before .before .loop .at) (c .before .before .before .read-header .ensures) (c .before .list .given .1)))

@@ -1,9 +1,9 @@
--- `schema::tuple` meets its contract. Assumes nothing.
+-- `schema_items::tuple` meets its contract. Assumes nothing.
 use mathlib.Core.Path.{sym, ap, _∙_}
-use Rattle.schema.specs.Schema.{goodIf}
+use Rattle.schema_items.specs.Kinds.{goodIf}
 use borrow.Author.Needs.{needs}
-use Rattle.schema.proofs.tuple.Statement.{statement}
-use Rattle.schema.proofs.tuple.Tie as tie
+use Rattle.schema_items.proofs.tuple.Statement.{statement}
+use Rattle.schema_items.proofs.tuple.Tie as tie
 
 returns : tie.Need-returns
 returns c = simp (c .before .before .before .before .if1 .taken, sym (c .before .before .before .items-whole .ensures) ∙ c .before .before .if2 .taken) (c .good-if .ensures ∙ ap goodIf (c .before .leaves .ensures))

@@ -1,8 +1,8 @@
--- `schema::is_leaf` meets its contract. Assumes nothing.
+-- `schema_items::is_leaf` meets its contract. Assumes nothing.
 use borrow.Author.Tests.{eq-eqb, ne-eqb}
 use borrow.Author.Needs.{needs}
-use Rattle.schema.proofs.is_leaf.Statement.{statement}
-use Rattle.schema.proofs.is_leaf.Tie as tie
+use Rattle.schema_items.proofs.is_leaf.Statement.{statement}
+use Rattle.schema_items.proofs.is_leaf.Tie as tie
 
 returns-2 : tie.Need-returns-2
 returns-2 c = simp (c .before .before .before .before .before .kind .given .1, c .before .before .before .before .before .before .before .if1 .left, ← (c .before .before .before .read-uint .ensures), c .before .v .given .1)

@@ -1,11 +1,11 @@
--- `schema::is_end` meets its contract. Assumes nothing.
+-- `schema_items::is_end` meets its contract. Assumes nothing.
 use mathlib.Core.Path.{sym, ap, _∙_}
 use mathlib.Core.List.{[]}
-use Rattle.schema.specs.Schema.{leaves}
-use Rattle.schema.proofs.Payload.{items-item, items-broken}
+use Rattle.schema_items.specs.Kinds.{leaves}
+use Rattle.schema_items.proofs.Payload.{items-item, items-broken}
 use borrow.Author.Needs.{needs}
-use Rattle.schema.proofs.is_end.Statement.{statement}
-use Rattle.schema.proofs.is_end.Tie as tie
+use Rattle.schema_items.proofs.is_end.Statement.{statement}
+use Rattle.schema_items.proofs.is_end.Tie as tie
 
 returns : tie.Need-returns
 returns c = sym (ap (leaves []) (items-item (c .before .before .before .before .args .s .now) (sym (c .before .before .read-header .ensures) ∙ c .enum-told .given .1)))

@@ -1,11 +1,11 @@
--- `schema::is_record` meets its contract. Assumes nothing.
+-- `schema_items::is_record` meets its contract. Assumes nothing.
 use mathlib.Core.Path.{ap}
 use Prim.Native.Nat.{ℕ}
 use lib.Dec.{leb}
-use Rattle.schema.proofs.Turns.{list-size}
+use Rattle.schema_items.proofs.Turns.{list-size}
 use borrow.Author.Needs.{needs}
-use Rattle.schema.proofs.is_record.Statement.{statement}
-use Rattle.schema.proofs.is_record.Tie as tie
+use Rattle.schema_items.proofs.is_record.Statement.{statement}
+use Rattle.schema_items.proofs.is_record.Tie as tie
 
 returns : tie.Need-returns
 returns c = simp (c .before .if1 .taken) (ap (λ (n : ℕ). leb n 300) (list-size (c .before .before .before .args .p .now) _ (c .header-size .ensures .0)))

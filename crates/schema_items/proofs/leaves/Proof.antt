@@ -1,4 +1,4 @@
--- `schema::leaves` meets its contract. Assumes nothing.
+-- `schema_items::leaves` meets its contract. Assumes nothing.
 use Prim.Native.Nat.{_≤_, _-_}
 use mathlib.Core.Path.{_≡_, refl, ap, _∙_}
 use mathlib.Core.List.{[]}
@@ -8,13 +8,13 @@ use lib.Seq.{slice}
 use Rattle.rlp.proofs.Reading.{head-at, item-at}
 use Rattle.octets.specs.Octets.{part}
 use Rattle.octets.proofs.Laws.{part-rest}
-use Rattle.schema.specs.Payload.{itemsOf}
-use Rattle.schema.specs.Schema as spec
-use Rattle.schema.specs.declared.Kind.the-variants.{Uint}
-use Rattle.schema.proofs.Turns.{leaves-none, leaves-item, leaves-stop, leaves-end}
+use Rattle.schema_items.specs.Payload.{itemsOf}
+use Rattle.schema_items.specs.Kinds as spec
+use Rattle.schema_items.specs.declared.Kind.the-variants.{Uint}
+use Rattle.schema_items.proofs.Turns.{leaves-none, leaves-item, leaves-stop, leaves-end}
 use borrow.Author.Needs.{needs}
-use Rattle.schema.proofs.leaves.Statement.{statement}
-use Rattle.schema.proofs.leaves.Tie as tie
+use Rattle.schema_items.proofs.leaves.Statement.{statement}
+use Rattle.schema_items.proofs.leaves.Tie as tie
 
 abbrev Inv-loop : tie.InvT-loop
 Inv-loop s n kinds at₀ i₀ at i = (at ≤ length s) × (spec.leaves (slice i n kinds) (itemsOf (drop at s)) ≡ spec.leaves (take n kinds) (itemsOf s))

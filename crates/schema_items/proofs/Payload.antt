@@ -14,7 +14,7 @@ use Rattle.rlp.proofs.Reading.{item-bounds, drop-item, count-next, count-broken
 use Rattle.rlp.proofs.Encoding.{read-item, read-payload, read-rest, small-first, small-rest, small-items, whole-is-encodes}
 use Rattle.rlp.specs.declared.Header.{Header}
 use Rattle.rlp.specs.declared.Header.the-variants as read
-use Rattle.schema.specs.Payload.{consItem, itemsAfter, itemsOf}
+use Rattle.schema_items.specs.Payload.{consItem, itemsAfter, itemsOf}
 
 -- the bytes to pass over first are dropped
 items-drop : (n : ℕ) (s : Bytes) → n ≤ length s → itemsAfter n s ≡ itemsAfter 0 (drop n s)
