@@ -29,7 +29,7 @@ pub use node_writer::write_neighbors;
 pub use packet_join::join;
 pub use packet_parts::NodeList;
 pub use ping_writer::write_ping;
-pub use ping_writer::write_pong;
+pub use pong_writer::write_pong;
 pub use written::Written;
 pub use written::written_number;
 pub use written::written_size;

@@ -7,7 +7,9 @@ use native.Mathlib.Omega.{arith}
 use lib.ListN.{length, take, drop, replicate, length-append, length-drop, length-replicate}
 use lib.Seq.{take-all, take-append-le, drop-append-le}
 use Rattle.keccak_steps.specs.Permutation.{keccakF}
-use Rattle.keccak.specs.Sponge.{padding, padded, blockAt, xorBlock, absorbed, squeezed, keccak256}
+use Rattle.keccak_pad.specs.Padding.{padding, padded}
+use Rattle.keccak_blocks.specs.Blocks.{xorBlock, squeezed}
+use Rattle.keccak.specs.Sponge.{blockAt, absorbed, keccak256}
 
 -- the first k blocks do not depend on what follows them
 before : (m t : List ℕ) (k : ℕ) → 136 * k ≤ length m → absorbed (m ++ t) k ≡ absorbed m k

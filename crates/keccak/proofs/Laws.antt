@@ -5,7 +5,8 @@ use Prim.Native.Nat.{ℕ, zero, suc, _/_, _%_, _*_, _^_, _<_}
 use native.Mathlib.Omega.{arith}
 use lib.ListN.{length, getD}
 use Rattle.keccak_steps.specs.Lanes.{each}
-use Rattle.keccak.specs.Sponge.{padded, absorbed, keccak256}
+use Rattle.keccak_pad.specs.Padding.{padded}
+use Rattle.keccak.specs.Sponge.{absorbed, keccak256}
 
 pub keccak256-length : (m : List ℕ) → length (keccak256 m) ≡ 32
 unfolding keccak256

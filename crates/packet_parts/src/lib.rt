@@ -11,6 +11,9 @@ ghost use Rattle.packet_parts.specs.Parts.{isAddress, isAddressSize, fie
 use entry::Node;
 use packet_items::EnrSeq;
 
+// The third item of `to` in a Ping and a Pong, which is not a field.
+pub const TO_TCP: u16 = 0;
+
 // The first `len` of `nodes`.
 pub struct NodeList {
     pub len: usize,

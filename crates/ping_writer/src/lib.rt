@@ -1,8 +1,9 @@
-// Writers of Ping and Pong into lent room.
+// The writer of Ping into lent room.
 ghost use mathlib.Core.Path.{_≡_};
-ghost use Rattle.packet_parts.specs.Writers.{canPing, pingBody, canPong, pongBody};
+ghost use Rattle.packet_parts.specs.Writers.{canPing, pingBody};
 ghost use Rattle.written.specs.Written.{written, writtenIn};
 use packet_items::EnrSeq;
+use packet_parts::TO_TCP;
 use packet_parts::body_size;
 use packet_parts::is_address_size;
 use packet_parts::put_start;
@@ -10,24 +11,12 @@ use written::Written;
 
 // The version of a Ping that is written.
 const VERSION: u64 = 4;
-// The third item of `to`, which is not a field.
-const TO_TCP: u16 = 0;
 
 fn can_ping(from: &[u8], to: &[u8]) -> bool
     ensures { λ r. ⌜ r ≡ canPing (now (from .entry)) (now (to .entry)) ⌝ }
 {
     if is_address_size(from.len()) {
         is_address_size(to.len())
-    } else {
-        false
-    }
-}
-
-fn can_pong(to: &[u8], ping_hash: &[u8]) -> bool
-    ensures { λ r. ⌜ r ≡ canPong (now (to .entry)) (now («ping_hash» .entry)) ⌝ }
-{
-    if is_address_size(to.len()) {
-        ping_hash.len() == 32
     } else {
         false
     }
@@ -56,32 +45,6 @@ pub fn write_ping(
             let at = rlp::write_uint(buf, at, VERSION);
             let at = packet_parts::put_endpoint(buf, at, from, from_udp, from_tcp);
             let at = packet_parts::put_endpoint(buf, at, to, to_udp, TO_TCP);
-            return Written::Done(packet_parts::put_last(buf, at, expiration, enr_seq));
-        }
-        return Written::Short;
-    }
-    Written::Unwritable
-}
-
-// Writes the body of a Pong: `to` with TCP port 0.
-pub fn write_pong(
-    buf: &mut [u8],
-    to: &[u8],
-    to_udp: u16,
-    ping_hash: &[u8],
-    expiration: u64,
-    enr_seq: EnrSeq,
-) -> Written
-    ensures answer { λ r. ⌜ r ≡ written (canPong (now (to .entry)) (now («ping_hash» .entry))) (pongBody (now (to .entry)) «to_udp» (now («ping_hash» .entry)) expiration «enr_seq») (now (buf .entry)) ⌝ }
-    ensures bytes { λ _. ⌜ now (buf .exit) ≡ writtenIn (canPong (now (to .entry)) (now («ping_hash» .entry))) (pongBody (now (to .entry)) «to_udp» (now («ping_hash» .entry)) expiration «enr_seq») (now (buf .entry)) ⌝ }
-{
-    if can_pong(to, ping_hash) {
-        let a = packet_parts::endpoint_size(to, to_udp, TO_TCP);
-        let size = a + 33 + packet_parts::last_size(expiration, enr_seq);
-        if body_size(size) <= buf.len() {
-            let at = put_start(buf, 2, size);
-            let at = packet_parts::put_endpoint(buf, at, to, to_udp, TO_TCP);
-            let at = rlp::write_string(buf, at, ping_hash);
             return Written::Done(packet_parts::put_last(buf, at, expiration, enr_seq));
         }
         return Written::Short;

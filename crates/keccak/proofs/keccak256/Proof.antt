@@ -7,7 +7,8 @@ use lib.ListN.{length, length-take, length-drop}
 use denote.Ref.{now}
 use borrow.Author.Needs.{needs}
 use Rattle.keccak_steps.specs.Permutation.{keccakF}
-use Rattle.keccak.specs.Sponge.{xorBlock, absorbed, squeezed}
+use Rattle.keccak_blocks.specs.Blocks.{xorBlock, squeezed}
+use Rattle.keccak.specs.Sponge.{absorbed}
 use Rattle.keccak.proofs.Absorbing.{turn, finish}
 use Rattle.keccak.proofs.keccak256.Statement.{statement}
 use Rattle.keccak.proofs.keccak256.Tie as tie

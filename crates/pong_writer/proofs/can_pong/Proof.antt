@@ -1,8 +1,8 @@
--- `ping_writer::can_pong` meets its contract. Assumes nothing.
+-- `pong_writer::can_pong` meets its contract. Assumes nothing.
 use mathlib.Core.Path.{sym, _∙_}
 use borrow.Author.Needs.{needs}
-use Rattle.ping_writer.proofs.can_pong.Statement.{statement}
-use Rattle.ping_writer.proofs.can_pong.Tie as tie
+use Rattle.pong_writer.proofs.can_pong.Statement.{statement}
+use Rattle.pong_writer.proofs.can_pong.Tie as tie
 
 returns : tie.Need-returns
 returns c = rw (sym (c .before .is-address-size .ensures) ∙ c .if1 .taken)

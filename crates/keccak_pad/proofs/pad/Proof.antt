@@ -1,4 +1,4 @@
--- `keccak::pad` meets its contract: after i turns the block holds i bytes of the tail over zeros, and the two stores add the padding.
+-- `keccak_pad::pad` meets its contract: after i turns the block holds i bytes of the tail over zeros, and the two stores add the padding.
 -- Assumes nothing.
 use mathlib.Core.Path.{_≡_, sym, ap, _∙_}
 use mathlib.Core.List.{List}
@@ -8,9 +8,9 @@ use native.Mathlib.Omega.{arith}
 use lib.ListN.{length, getD, set}
 use denote.Ref.{now}
 use borrow.Author.Needs.{needs}
-use Rattle.keccak.proofs.Padding.{copied, copied-more, closed, pad-is}
-use Rattle.keccak.proofs.pad.Statement.{statement}
-use Rattle.keccak.proofs.pad.Tie as tie
+use Rattle.keccak_pad.proofs.Padding.{copied, copied-more, closed, pad-is}
+use Rattle.keccak_pad.proofs.pad.Statement.{statement}
+use Rattle.keccak_pad.proofs.pad.Tie as tie
 
 abbrev Inv-loop : tie.InvT-loop
 Inv-loop tail block₀ i₀ block i = (i ≤ length tail) × (block ≡ copied tail i)

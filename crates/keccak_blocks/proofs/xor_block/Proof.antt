@@ -1,4 +1,4 @@
--- `keccak::xor_block` meets its contract: lane i of the block is what the i-th call of `lane_at` ensures, and past the block's 136 bytes
+-- `keccak_blocks::xor_block` meets its contract: lane i of the block is what the i-th call of `lane_at` ensures, and past the block's 136 bytes
 -- there are only zeros. Assumes nothing.
 use mathlib.Core.Path.{_≡_, sym, ap, _∙_}
 use mathlib.Core.List.{List, [], _∷_}
@@ -9,9 +9,9 @@ use lib.ListN.{length, getD, List·getD-eq-default}
 use denote.Ref.{now}
 use borrow.Author.Needs.{needs}
 use Rattle.keccak_steps.specs.Lanes.{_⊕_}
-use Rattle.keccak.specs.Sponge.{laneAt, xorBlock}
-use Rattle.keccak.proofs.xor_block.Statement.{statement}
-use Rattle.keccak.proofs.xor_block.Tie as tie
+use Rattle.keccak_blocks.specs.Blocks.{laneAt, xorBlock}
+use Rattle.keccak_blocks.proofs.xor_block.Statement.{statement}
+use Rattle.keccak_blocks.proofs.xor_block.Tie as tie
 
 past : (b : List ℕ) (at : ℕ) → length b ≤ at → laneAt b at ≡ 0
 unfolding laneAt

@@ -1,4 +1,4 @@
--- `ping_writer::write_pong` meets its contract. Assumes nothing.
+-- `pong_writer::write_pong` meets its contract. Assumes nothing.
 use Prim.Native.Nat.{ℕ, _+_}
 use mathlib.Core.Path.{_≡_, sym, ap, _∙_}
 use mathlib.Core.Bool.{true}
@@ -18,8 +18,8 @@ use Rattle.packet_parts.specs.Writers.{canPong, pongBody}
 use Rattle.written.proofs.Answers.{refused}
 use Rattle.packet_parts.proofs.Bodies.{Begun, begin, end, too-short}
 use borrow.Author.Needs.{needs}
-use Rattle.ping_writer.proofs.write_pong.Statement.{statement}
-use Rattle.ping_writer.proofs.write_pong.Tie as tie
+use Rattle.pong_writer.proofs.write_pong.Statement.{statement}
+use Rattle.pong_writer.proofs.write_pong.Tie as tie
 
 abbrev to : tie.Start → Item
 to c = endpoint (c .args .to .now) (c .args .to-udp) 0
