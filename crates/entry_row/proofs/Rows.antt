@@ -5,7 +5,7 @@ use Prim.Native.Nat.{ℕ, _≤_, _<_}
 use native.Mathlib.Omega.{arith}
 use lib.ListN.{length, length-take}
 use Rattle.octets.specs.Octets.{Bytes}
-use Rattle.packet_parts.proofs.Progress.{concat}
+use Rattle.octets.proofs.Progress.{concat}
 use Rattle.text.specs.Decimals.{decimal}
 use Rattle.text.specs.Hex.{hex}
 use Rattle.text.specs.Rows.{tabbed, rowEnd, row}

@@ -11,7 +11,7 @@ use Rattle.octets.specs.Octets.{Bytes, part, store}
 use Rattle.octets.proofs.Laws.{store-append, store-set, part-store}
 use Rattle.keccak.specs.Sponge.{keccak256}
 use Rattle.keccak.proofs.Laws.{keccak256-length}
-use Rattle.packet_parts.proofs.Tests.{and-left, and-right}
+use Rattle.lists.proofs.Laws.{and-left, and-right}
 use Rattle.packet_join.specs.Join.{canJoin, datagram}
 
 pub signature-size : (s b : Bytes) → canJoin s b ≡ true → length s ≡ 65

@@ -25,7 +25,7 @@ use Rattle.packets.proofs.Inversion.{ping-accepted, pong-accepted, find-node-ac
 use Rattle.packets.proofs.NodeLists.{neighbors-accepted}
 use Rattle.wire.specs.Datagram.{isSized, hashMatches, signatureOf, packetIn}
 use Rattle.packet_parts.specs.Parts.{body}
-use Rattle.packet_parts.proofs.Tests.{and-left, and-right}
+use Rattle.lists.proofs.Laws.{and-left, and-right}
 use Rattle.packet_parts.specs.Writers.{isRecord, content}
 use Rattle.packet_parts.proofs.Records.{record-bound, content-is}
 use Rattle.packet_join.specs.Join.{datagram}

@@ -18,7 +18,7 @@ use Rattle.packet_items.specs.declared.EnrSeq.{EnrSeq}
 use Rattle.packet_items.specs.declared.EnrSeq.the-variants.{Absent, Present}
 use Rattle.packet_parts.specs.Parts.{isAddress, isAddressSize, body, nodeItems, nodesOf, haveAddresses, writableNodes}
 use Rattle.packet_parts.specs.declared.NodeList.{NodeList}
-use Rattle.packet_parts.proofs.Tests.{and-left, and-right}
+use Rattle.lists.proofs.Laws.{and-left, and-right}
 use Rattle.packet_parts.proofs.Sizes.{total-size, uint-bytes, string-short, string-long, uint-width, address-size, fields-size, fields-bound, endpoint-size, node-size}
 use Rattle.packet_parts.proofs.Nodes.{few, addresses, address-is}
 use Rattle.packet_parts.specs.Writers.{isRecord, content, canPing, canPong}

@@ -19,7 +19,7 @@ use Rattle.packet_items.specs.declared.EnrSeq.the-variants.{Absent, Present}
 use Rattle.spans.specs.Spans.{padded}
 use Rattle.packets.specs.Accepted.{SeqFits, NodeGood, NodesGood}
 use Rattle.packet_parts.specs.Parts.{isAddress, isAddressSize, body, nodesOf, haveAddresses}
-use Rattle.packet_parts.proofs.Tests.{and-left, and-right}
+use Rattle.lists.proofs.Laws.{and-left, and-right}
 use Rattle.packet_parts.proofs.Sizes.{address-size}
 use Rattle.packet_parts.proofs.Nodes.{few, addresses, address-length}
 use Rattle.packet_laws.specs.Bodies.{EnrFits, NodeFits, NodesFit, WrittenBody}

@@ -10,7 +10,7 @@ use Rattle.rlp.specs.Encoding.{Item, header, encodes}
 use Rattle.packet_parts.specs.Parts.{body}
 use Rattle.written.specs.declared.Written.the-variants.{Done, Short}
 use Rattle.written.proofs.Answers.{Answered, done, short}
-use Rattle.packet_parts.proofs.Progress.{Progress, concat, start, finish}
+use Rattle.octets.proofs.Progress.{Progress, concat, start, finish}
 use Rattle.packet_parts.proofs.Sizes.{framed}
 
 -- the writes of a body whose items take `size` bytes: type and header, then `pieces`; nothing is written yet

@@ -1,5 +1,4 @@
-pub mod Tests
-pub mod Progress
+pub mod Pieces
 pub mod Sizes
 pub mod Nodes
 pub mod Bodies

@@ -15,9 +15,9 @@ use Rattle.entry.specs.declared.Node.{Node}
 use Rattle.packet_parts.specs.declared.NodeList.{NodeList}
 use Rattle.packet_parts.specs.Parts.{isAddressSize, isAddress, nodesOf, haveAddresses, writableNodes}
 use Rattle.rlp.specs.Encoding.{encode, encodes}
-use Rattle.packet_parts.proofs.Tests.{and-left, and-right}
+use Rattle.lists.proofs.Laws.{and-left, and-right}
 use Rattle.packet_parts.proofs.Sizes.{address-size}
-use Rattle.packet_parts.proofs.Progress.{pieces}
+use Rattle.packet_parts.proofs.Pieces.{pieces}
 use lib.ListN.{length-append, length-map}
 
 -- the address of a node record is the first `len` of 16 bytes

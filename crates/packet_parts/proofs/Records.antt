@@ -14,7 +14,7 @@ use Rattle.rlp.specs.Reading.{head}
 use Rattle.rlp.specs.declared.Header.{Header}
 use Rattle.rlp.specs.declared.Header.the-variants.{Item, Broken}
 use Rattle.rlp.proofs.Encoding.{read-sound}
-use Rattle.packet_parts.proofs.Tests.{and-left, and-right}
+use Rattle.lists.proofs.Laws.{and-left, and-right}
 use Rattle.packet_parts.specs.Writers.{isListOf, isRecord, skipOf, content}
 
 -- by the header

@@ -16,7 +16,7 @@ use Rattle.rlp.proofs.Writing.{header-short, header-long, encode-framed, encode
 use Rattle.packet_items.specs.Items.{uint, endpoint, node}
 use Rattle.packet_items.specs.declared.EnrSeq.{EnrSeq}
 use Rattle.packet_items.specs.declared.EnrSeq.the-variants.{Absent, Present}
-use Rattle.packet_parts.proofs.Tests.{or-elim}
+use Rattle.lists.proofs.Laws.{or-elim}
 use Rattle.packet_parts.specs.Parts.{isAddressSize, isAddress, fields, lastItems}
 
 -- a list's items behind a header that says their size

@@ -14,8 +14,8 @@ use Rattle.bucket_model.specs.Contents.{Contents, noContents, entriesAt}
 use Rattle.table_model.specs.Layout.{clockOf, countOf, bucketAt, bucketsOf}
 use Rattle.table_model.proofs.Entries.{behind, behind-none, behind-all, behind-turn}
 use Rattle.table_model.proofs.Table.{count-read, bucket-read}
-use Rattle.rlp.proofs.Writing.{Wrote}
-use Rattle.packet_parts.proofs.Progress.{Progress, concat, start, finish}
+use Rattle.octets.proofs.Writing.{Wrote}
+use Rattle.octets.proofs.Progress.{Progress, concat, start, finish}
 use Rattle.text.specs.Decimals.{decimal}
 use Rattle.rows.proofs.Rows.{pieces, pieces-are}
 use Rattle.entry_row.specs.EntryRow.{entryRow}

@@ -7,13 +7,12 @@ use borrow.Author.Tests.{eqb-true}
 use lib.Dec.{eqb}
 use lib.ListN.{length, getD, replicate}
 use Rattle.octets.specs.Octets.{Bytes, IsBytes, part, sameBytes}
-use Rattle.lists.proofs.Laws.{and-left, and-right, All-imp}
+use Rattle.lists.proofs.Laws.{and-left, and-right, All-imp, or-elim}
 use Rattle.distance.specs.Distance.{home}
 use Rattle.entry.specs.declared.Entry.{Entry}
 use Rattle.bucket_model.specs.Contents.{Contents, entriesAt}
 use Rattle.bucket_model.proofs.Sound.{EntrySound}
 use Rattle.bucket_model.proofs.ByteForm.{decode-bucket}
-use Rattle.packet_parts.proofs.Tests.{or-elim}
 use Rattle.table_model.specs.Layout.{ownOf, clockOf, countOf, offsetOf, numberOf, bucketAt, headerSound}
 use Rattle.table_model.specs.Sound.{bucketSound, bucketsSound, tableSound}
 use Rattle.table_model.proofs.Sound.{SoundBucket, all-below, counts-at, table-header, sound-is-table}

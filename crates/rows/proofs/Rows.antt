@@ -5,8 +5,8 @@ use Prim.Native.Nat.{ℕ, _+_, _≤_}
 use native.Mathlib.Omega.{arith}
 use lib.ListN.{length, take, length-append, length-take}
 use Rattle.octets.specs.Octets.{Bytes, store}
-use Rattle.rlp.proofs.Writing.{Wrote}
-use Rattle.packet_parts.proofs.Progress.{Progress, concat, start, finish}
+use Rattle.octets.proofs.Writing.{Wrote}
+use Rattle.octets.proofs.Progress.{Progress, concat, start, finish}
 use Rattle.text.specs.Rows.{tabbed, rowEnd, row}
 use Rattle.text.proofs.Decimals.{length-bound}
 use Rattle.text.proofs.Hex.{length-hex}

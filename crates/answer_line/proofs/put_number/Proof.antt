@@ -2,7 +2,7 @@
 use Prim.Native.Nat.{_+_, _≤_}
 use lib.ListN.{length}
 use mathlib.Core.List.{[]}
-use Rattle.packet_parts.proofs.Progress.{room, step}
+use Rattle.octets.proofs.Progress.{room, step}
 use Rattle.text.specs.Decimals.{decimal}
 use Rattle.text.proofs.Decimals.{length-bound}
 use Rattle.rows.proofs.Rows.{pieces, total, Writing}

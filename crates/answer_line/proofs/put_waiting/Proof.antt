@@ -2,7 +2,7 @@
 use Prim.Native.Nat.{_+_, _≤_}
 use mathlib.Core.List.{List}
 use Rattle.octets.specs.Octets.{Bytes}
-use Rattle.packet_parts.proofs.Progress.{room, step}
+use Rattle.octets.proofs.Progress.{room, step}
 use Rattle.text.specs.Decimals.{decimal}
 use Rattle.text.proofs.Decimals.{length-one}
 use lib.ListN.{length}

@@ -6,7 +6,8 @@ use lib.ListN.{length}
 use Rattle.rlp.specs.Encoding.{Item, encodes}
 use Rattle.packet_items.specs.Items.{enrRequestItems}
 use Rattle.packet_parts.proofs.Sizes.{total-size, uint-width}
-use Rattle.packet_parts.proofs.Progress.{pieces, concat-pieces, room, step}
+use Rattle.octets.proofs.Progress.{room, step}
+use Rattle.packet_parts.proofs.Pieces.{pieces, concat-pieces}
 use Rattle.packet_parts.proofs.Bodies.{Begun, begin, end, too-short}
 use borrow.Author.Needs.{needs}
 use Rattle.enr_writer.proofs.write_enr_request.Statement.{statement}

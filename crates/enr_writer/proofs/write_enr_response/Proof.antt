@@ -10,9 +10,9 @@ use lib.ListN.{length}
 use Rattle.octets.specs.Octets.{Bytes}
 use Rattle.rlp.specs.Encoding.{Item, encode, encodes, string, list}
 use Rattle.packet_items.specs.Items.{enrResponseItems}
-use Rattle.packet_parts.proofs.Tests.{and-left, and-right}
+use Rattle.lists.proofs.Laws.{and-left, and-right}
 use Rattle.packet_parts.proofs.Sizes.{total-size, string-short}
-use Rattle.packet_parts.proofs.Progress.{concat, room, step}
+use Rattle.octets.proofs.Progress.{concat, room, step}
 use Rattle.packet_parts.specs.Writers.{isRecord, content, canEnrResponse, enrResponseBody}
 use Rattle.written.proofs.Answers.{refused}
 use Rattle.packet_parts.proofs.Bodies.{Begun, begin, end, too-short}

@@ -9,7 +9,7 @@ use Rattle.octets.specs.Octets.{Bytes}
 use Rattle.text.specs.Decimals.{decimal}
 use Rattle.text.specs.Hex.{hex}
 use Rattle.bucket_model.specs.Rules.{addressOf}
-use Rattle.packet_parts.proofs.Progress.{Progress, start, room, step, finish}
+use Rattle.octets.proofs.Progress.{Progress, start, room, step, finish}
 use borrow.Author.Needs.{needs}
 use Rattle.entry_row.proofs.put_endpoint.Statement.{statement}
 use Rattle.entry_row.proofs.put_endpoint.Tie as tie

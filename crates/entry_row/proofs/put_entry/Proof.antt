@@ -8,7 +8,7 @@ use Rattle.text.specs.Decimals.{decimal}
 use Rattle.text.specs.Hex.{hex}
 use Rattle.bucket_model.specs.Rules.{addressOf}
 use Rattle.rows.specs.Rows.{keyText, pingText}
-use Rattle.packet_parts.proofs.Progress.{Progress, concat, start, room, step, finish}
+use Rattle.octets.proofs.Progress.{Progress, concat, start, room, step, finish}
 use Rattle.entry_row.specs.EntryRow.{proofText, entryRow}
 use Rattle.entry_row.specs.Parts.{placeText, endpointText, timesText}
 use Rattle.entry_row.proofs.Rows.{row-parts}

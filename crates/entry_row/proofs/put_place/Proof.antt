@@ -3,7 +3,7 @@ use mathlib.Core.Path.{refl}
 use mathlib.Core.List.{List, [], _∷_}
 use Rattle.octets.specs.Octets.{Bytes}
 use Rattle.text.specs.Decimals.{decimal}
-use Rattle.packet_parts.proofs.Progress.{Progress, start, room, step, finish}
+use Rattle.octets.proofs.Progress.{Progress, start, room, step, finish}
 use borrow.Author.Needs.{needs}
 use Rattle.entry_row.proofs.put_place.Statement.{statement}
 use Rattle.entry_row.proofs.put_place.Tie as tie

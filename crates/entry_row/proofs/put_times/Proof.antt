@@ -5,7 +5,7 @@ use native.Mathlib.Omega.{arith}
 use lib.ListN.{length}
 use Rattle.octets.specs.Octets.{Bytes}
 use Rattle.text.specs.Decimals.{decimal}
-use Rattle.packet_parts.proofs.Progress.{Progress, concat, start, room, step, finish}
+use Rattle.octets.proofs.Progress.{Progress, concat, start, room, step, finish}
 use Rattle.text.specs.Rows.{rowEnd}
 use Rattle.rows.specs.Rows.{pingText}
 use Rattle.rows.proofs.Rows.{tabs, tabs-are}

@@ -8,7 +8,8 @@ use lib.ListN.{length}
 use Rattle.rlp.specs.Encoding.{Item, encodes}
 use Rattle.packet_items.specs.Items.{findNodeItems}
 use Rattle.packet_parts.proofs.Sizes.{total-size, string-long, uint-width}
-use Rattle.packet_parts.proofs.Progress.{pieces, concat-pieces, room, step}
+use Rattle.octets.proofs.Progress.{room, step}
+use Rattle.packet_parts.proofs.Pieces.{pieces, concat-pieces}
 use Rattle.packet_parts.specs.Writers.{canFindNode, findNodeBody}
 use Rattle.written.proofs.Answers.{refused}
 use Rattle.packet_parts.proofs.Bodies.{Begun, begin, end, too-short}

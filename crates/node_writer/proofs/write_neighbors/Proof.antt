@@ -10,7 +10,7 @@ use Rattle.rlp.specs.Encoding.{Item, header, encode, encodes, list}
 use Rattle.packet_items.specs.Items.{uint, neighborsItems}
 use Rattle.packet_parts.specs.Parts.{writableNodes, nodeItems}
 use Rattle.packet_parts.proofs.Sizes.{total-size, framed, uint-width}
-use Rattle.packet_parts.proofs.Progress.{concat, room, step}
+use Rattle.octets.proofs.Progress.{concat, room, step}
 use Rattle.packet_parts.specs.Writers.{neighborsBody}
 use Rattle.written.proofs.Answers.{refused}
 use Rattle.packet_parts.proofs.Bodies.{Begun, begin, end, too-short}

@@ -4,7 +4,7 @@ use mathlib.Core.List.{List, [], _∷_}
 use Rattle.octets.specs.Octets.{Bytes}
 use Rattle.rlp.specs.Encoding.{encode, string}
 use Rattle.packet_items.specs.Items.{uint}
-use Rattle.packet_parts.proofs.Progress.{Progress, start, room, step, finish}
+use Rattle.octets.proofs.Progress.{Progress, start, room, step, finish}
 use borrow.Author.Needs.{needs}
 use Rattle.packet_parts.proofs.put_fields.Statement.{statement}
 use Rattle.packet_parts.proofs.put_fields.Tie as tie

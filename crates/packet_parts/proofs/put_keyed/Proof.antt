@@ -8,7 +8,7 @@ use Rattle.octets.specs.Octets.{Bytes}
 use Rattle.rlp.specs.Encoding.{header, encode, encodes, string}
 use Rattle.packet_items.specs.Items.{node}
 use Rattle.packet_parts.specs.Parts.{fields}
-use Rattle.packet_parts.proofs.Progress.{Progress, concat, start, room, step, finish}
+use Rattle.octets.proofs.Progress.{Progress, concat, start, room, step, finish}
 use Rattle.packet_parts.proofs.Sizes.{framed, keyed, keyed-size, encodes-append}
 use borrow.Author.Needs.{needs}
 use Rattle.packet_parts.proofs.put_keyed.Statement.{statement}

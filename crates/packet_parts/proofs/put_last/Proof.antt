@@ -7,7 +7,8 @@ use Rattle.rlp.specs.Encoding.{Item}
 use Rattle.packet_items.specs.Items.{enrSeqItems}
 use Rattle.packet_items.specs.declared.EnrSeq.{EnrSeq}
 use Rattle.packet_parts.specs.Parts.{lastItems}
-use Rattle.packet_parts.proofs.Progress.{Progress, pieces, concat-pieces, start, room, step, renamed, finish}
+use Rattle.octets.proofs.Progress.{Progress, start, room, step, renamed, finish}
+use Rattle.packet_parts.proofs.Pieces.{pieces, concat-pieces}
 use borrow.Author.Needs.{needs}
 use Rattle.packet_parts.proofs.put_last.Statement.{statement}
 use Rattle.packet_parts.proofs.put_last.Tie as tie

@@ -8,7 +8,8 @@ use lib.ListN.{length, drop}
 use Rattle.packet_items.specs.Items.{nodeItem}
 use Rattle.entry.specs.declared.Node.{Node}
 use Rattle.packet_parts.specs.Parts.{nodeItems, nodesOf, haveAddresses}
-use Rattle.packet_parts.proofs.Progress.{Progress, pieces, concat-pieces, start, room, step, renamed, finish}
+use Rattle.octets.proofs.Progress.{Progress, start, room, step, renamed, finish}
+use Rattle.packet_parts.proofs.Pieces.{pieces, concat-pieces}
 use Rattle.packet_parts.proofs.Nodes.{noNode, length-mapped, few, addresses, has-address, have-more, next-piece, all-passed}
 use borrow.Author.Needs.{needs}
 use Rattle.packet_parts.proofs.put_nodes.Statement.{statement}

@@ -10,9 +10,9 @@ use Rattle.rlp.specs.Encoding.{Item, encode, encodes}
 use Rattle.rlp.proofs.Writing.{uint-size-small}
 use Rattle.packet_items.specs.Items.{uint, endpoint, pingItems, enrSeqItems}
 use Rattle.packet_parts.specs.Parts.{isAddress, lastItems}
-use Rattle.packet_parts.proofs.Tests.{and-left, and-right}
+use Rattle.lists.proofs.Laws.{and-left, and-right}
 use Rattle.packet_parts.proofs.Sizes.{total-size}
-use Rattle.packet_parts.proofs.Progress.{concat, room, step}
+use Rattle.octets.proofs.Progress.{concat, room, step}
 use Rattle.packet_parts.specs.Writers.{canPing, pingBody}
 use Rattle.written.proofs.Answers.{refused}
 use Rattle.packet_parts.proofs.Bodies.{Begun, begin, end, too-short}

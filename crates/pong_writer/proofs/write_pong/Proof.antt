@@ -11,9 +11,9 @@ use lib.Dec.{eqb}
 use borrow.Author.Tests.{eqb-true}
 use Rattle.packet_items.specs.Items.{endpoint, pongItems, enrSeqItems}
 use Rattle.packet_parts.specs.Parts.{isAddress, lastItems}
-use Rattle.packet_parts.proofs.Tests.{and-left, and-right}
+use Rattle.lists.proofs.Laws.{and-left, and-right}
 use Rattle.packet_parts.proofs.Sizes.{total-size, string-short}
-use Rattle.packet_parts.proofs.Progress.{concat, room, step}
+use Rattle.octets.proofs.Progress.{concat, room, step}
 use Rattle.packet_parts.specs.Writers.{canPong, pongBody}
 use Rattle.written.proofs.Answers.{refused}
 use Rattle.packet_parts.proofs.Bodies.{Begun, begin, end, too-short}

@@ -6,7 +6,7 @@ use native.Mathlib.Omega.{arith}
 use lib.ListN.{length}
 use Rattle.octets.specs.Octets.{Bytes}
 use Rattle.table_model.specs.Layout.{countOf, bucketsOf}
-use Rattle.packet_parts.proofs.Progress.{Progress, room, step, renamed}
+use Rattle.octets.proofs.Progress.{Progress, room, step, renamed}
 use Rattle.printout.specs.Printout.{bucketsRows}
 use Rattle.printout.proofs.Rows.{passed, start-one, finish-one, firstNumber, rowsFrom, all-buckets, no-buckets, due-rows}
 use Rattle.printout.proofs.Slots.{header-in, at-most, bucket-in}

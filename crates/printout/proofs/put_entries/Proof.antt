@@ -9,7 +9,7 @@ use Rattle.lists.specs.Lists.{All}
 use Rattle.entry.specs.declared.Entry.{Entry}
 use Rattle.bucket_model.specs.Contents.{entriesAt}
 use Rattle.table_model.proofs.Entries.{behind, behind-all}
-use Rattle.packet_parts.proofs.Progress.{Progress, room, step, renamed}
+use Rattle.octets.proofs.Progress.{Progress, room, step, renamed}
 use Rattle.printout.specs.Printout.{entryRows}
 use Rattle.entry_row.specs.EntryRow.{HasAddress}
 use Rattle.printout.proofs.Rows.{passed, start-one, finish-one, rowsBehind, all-rows, no-rows, due-row, holds-here, holds-behind}

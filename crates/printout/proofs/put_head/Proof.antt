@@ -5,7 +5,7 @@ use native.Mathlib.Omega.{arith}
 use lib.ListN.{length}
 use Rattle.octets.specs.Octets.{Bytes}
 use Rattle.text.specs.Decimals.{decimal}
-use Rattle.packet_parts.proofs.Progress.{Progress, concat, start, room, step, finish}
+use Rattle.octets.proofs.Progress.{Progress, concat, start, room, step, finish}
 use Rattle.rows.proofs.Rows.{pieces}
 use Rattle.printout.specs.declared.Totals.{Totals}
 use Rattle.printout.specs.Printout.{tableWord, tableRow}

@@ -6,7 +6,7 @@ use native.Mathlib.Omega.{arith}
 use lib.ListN.{length}
 use Rattle.octets.specs.Octets.{Bytes, IsBytes}
 use Rattle.table_model.specs.Layout.{countOf, bucketsOf}
-use Rattle.packet_parts.proofs.Progress.{Progress, concat, start, room, step, finish}
+use Rattle.octets.proofs.Progress.{Progress, concat, start, room, step, finish}
 use Rattle.printout.specs.Printout.{tableRow, bucketsRows, printout}
 use Rattle.printout.proofs.Sizes.{printout-fits}
 use borrow.Author.Needs.{needs}

@@ -8,7 +8,8 @@ use lib.ListN.{length, length-set}
 use Rattle.rlp.specs.Numbers.{uintBytes}
 use Rattle.rlp.specs.Encoding.{header}
 use Rattle.rlp.proofs.Numbers.{uint-bound}
-use Rattle.rlp.proofs.Writing.{header-short, header-long, wrote-one, wrote-cons}
+use Rattle.octets.proofs.Writing.{wrote-one, wrote-cons}
+use Rattle.rlp.proofs.Writing.{header-short, header-long}
 use Rattle.rlp.proofs.write_header.Statement.{statement}
 use Rattle.rlp.proofs.write_header.Tie as tie
 

@@ -7,7 +7,8 @@ use native.Mathlib.Omega.{arith}
 use borrow.Author.Needs.{needs}
 use lib.ListN.{length, getD, length-append}
 use Rattle.rlp.specs.Encoding.{header, encode, string}
-use Rattle.rlp.proofs.Writing.{encode-one, encode-framed, wrote-one, wrote-append}
+use Rattle.octets.proofs.Writing.{wrote-one, wrote-append}
+use Rattle.rlp.proofs.Writing.{encode-one, encode-framed}
 use Rattle.rlp.proofs.write_string.Statement.{statement}
 use Rattle.rlp.proofs.write_string.Tie as tie
 

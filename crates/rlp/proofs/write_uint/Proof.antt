@@ -9,7 +9,8 @@ use lib.ListN.{length, length-set}
 use Rattle.rlp.specs.Numbers.{uintBytes}
 use Rattle.rlp.specs.Encoding.{encode, string}
 use Rattle.rlp.proofs.Numbers.{uint-bound}
-use Rattle.rlp.proofs.Writing.{encode-uint-one, encode-uint, wrote-one, wrote-cons}
+use Rattle.octets.proofs.Writing.{wrote-one, wrote-cons}
+use Rattle.rlp.proofs.Writing.{encode-uint-one, encode-uint}
 use Rattle.rlp.proofs.write_uint.Statement.{statement}
 use Rattle.rlp.proofs.write_uint.Tie as tie
 

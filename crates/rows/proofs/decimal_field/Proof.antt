@@ -3,7 +3,7 @@ use mathlib.Core.Path.{refl, _∙_}
 use native.Mathlib.Omega.{arith}
 use lib.ListN.{length-set}
 use Rattle.text.specs.Decimals.{decimal}
-use Rattle.rlp.proofs.Writing.{wrote-cons}
+use Rattle.octets.proofs.Writing.{wrote-cons}
 use borrow.Author.Needs.{needs}
 use Rattle.rows.proofs.decimal_field.Statement.{statement}
 use Rattle.rows.proofs.decimal_field.Tie as tie

@@ -4,7 +4,7 @@ use native.Mathlib.Omega.{arith}
 use lib.ListN.{length-set}
 use Rattle.text.specs.Hex.{hex}
 use Rattle.text.proofs.Hex.{length-hex}
-use Rattle.rlp.proofs.Writing.{wrote-cons}
+use Rattle.octets.proofs.Writing.{wrote-cons}
 use borrow.Author.Needs.{needs}
 use Rattle.rows.proofs.hex_field.Statement.{statement}
 use Rattle.rows.proofs.hex_field.Tie as tie

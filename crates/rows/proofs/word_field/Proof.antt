@@ -2,7 +2,7 @@
 use mathlib.Core.Path.{refl, _∙_}
 use native.Mathlib.Omega.{arith}
 use lib.ListN.{length-set}
-use Rattle.rlp.proofs.Writing.{wrote-cons}
+use Rattle.octets.proofs.Writing.{wrote-cons}
 use borrow.Author.Needs.{needs}
 use Rattle.rows.proofs.word_field.Statement.{statement}
 use Rattle.rows.proofs.word_field.Tie as tie

@@ -4,10 +4,9 @@ use mathlib.Core.Path.{_≡_, refl, sym, ap, subst, _∙_}
 use mathlib.Core.List.{List, [], _∷_, _++_, append-assoc, append-nil}
 use native.Mathlib.Omega.{arith}
 use lib.ListN.{length, length-append}
 use Rattle.octets.specs.Octets.{Bytes}
-use Rattle.rlp.specs.Encoding.{Item, encode, encodes}
-use Rattle.rlp.proofs.Writing.{Wrote, wrote-append}
 use Rattle.octets.proofs.Laws.{length-store}
+use Rattle.octets.proofs.Writing.{Wrote, wrote-append}
 
 -- byte strings one after the other
 abbrev pub concat : List Bytes → Bytes
@@ -51,12 +50,3 @@ module _ {d₀ : Bytes} {at : ℕ} {all : List Bytes} {d : Bytes} {n : ℕ} wher
   -- what is still to come, by another name
   pub renamed : {xs ys : List Bytes} → xs ≡ ys → Progress d₀ at all xs d n → Progress d₀ at all ys d n
   renamed e p = subst (λ (r : List Bytes). Progress d₀ at all r d n) e p
-
--- items one after the other
-abbrev pub pieces : List Item → List Bytes
-pieces [] = []
-pieces (i ∷ is) = encode i ∷ pieces is
-
-pub concat-pieces : (is : List Item) → concat (pieces is) ≡ encodes is
-concat-pieces [] = refl
-concat-pieces (i ∷ is) = ap (λ (x : Bytes). encode i ++ x) (concat-pieces is)
