@@ -3,7 +3,7 @@ use Prim.Native.Nat.{ℕ}
 use mathlib.Core.Bool.{cond}
 use lib.Dec.{eqb}
 use Rattle.octets.specs.Octets.{Bytes}
-use Rattle.spans.specs.Spans.{bytesOf}
+use Rattle.span.specs.Parts.{bytesOf}
 use Rattle.packets.specs.declared.Packet.{Packet}
 use Rattle.packets.specs.declared.Packet.the-variants.{Ping, Pong, FindNode, Neighbors, EnrRequest, EnrResponse, Refused}
 use Rattle.wire.specs.Datagram.{isSized, hashMatches, readAt}

@@ -12,7 +12,7 @@ use packets::Packet;
 use packets::Ping;
 use packets::Pong;
 use packets::Recipient;
-use spans::Span;
+use span::Span;
 
 fn print_enr_seq(e: EnrSeq) {
     match e {

@@ -10,7 +10,7 @@ use Rattle.octets.proofs.Laws.{same-ne}
 use Rattle.keccak.specs.Sponge.{keccak256}
 use Rattle.keccak.proofs.Laws.{keccak256-length}
 use Rattle.packets.specs.Packets.{typeOf, readAs, readData}
-use Rattle.spans.proofs.Spans.{bytes-out}
+use Rattle.span.proofs.Parts.{bytes-out}
 use Rattle.packets.specs.declared.Packet.the-variants.{Refused}
 use Rattle.wire.specs.Datagram.{hashMatches, packetIn}
 

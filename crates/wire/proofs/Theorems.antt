@@ -7,7 +7,8 @@ use borrow.Author.Tests.{leb-true}
 use lib.Dec.{leb}
 use lib.ListN.{length, drop, getD, length-drop}
 use Rattle.octets.specs.Octets.{Bytes, Slice}
-use Rattle.spans.specs.Spans.{bytesOf, nodesOf}
+use Rattle.span.specs.Parts.{bytesOf}
+use Rattle.spans.specs.Spans.{nodesOf}
 use Rattle.packets.specs.Packets.{typeOf, readAs}
 use Rattle.packets.specs.Accepted.{neighborsFields}
 use Rattle.packets.proofs.Accepted.{read-type}

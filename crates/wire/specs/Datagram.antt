@@ -6,9 +6,9 @@ use lib.ListN.{length, drop, getD}
 use Rattle.octets.specs.Octets.{Bytes, sameBytes}
 use Rattle.keccak.specs.Sponge.{keccak256}
 use Rattle.entry.specs.declared.UnixSeconds.{UnixSeconds}
-use Rattle.spans.specs.Spans.{bytesOf}
+use Rattle.span.specs.Parts.{bytesOf}
 use Rattle.packets.specs.Packets.{readData}
-use Rattle.spans.specs.declared.Span.{Span}
+use Rattle.span.specs.declared.Span.{Span}
 use Rattle.packets.specs.declared.Packet.{Packet}
 use Rattle.packets.specs.declared.Packet.the-variants.{Ping, Pong, FindNode, Neighbors, EnrRequest, EnrResponse, Refused}
 

@@ -5,7 +5,7 @@ ghost use Rattle.wire.specs.Datagram.{isSized, hashOf, signatureOf, hash
 ghost use Rattle.wire.specs.Datagram as spec;
 use entry::UnixSeconds;
 use packets::Packet;
-use spans::Span;
+use span::Span;
 
 // Answer 3 if not: 98 to 1,280 bytes.
 pub fn is_sized(datagram: &[u8]) -> bool
@@ -22,14 +22,14 @@ pub fn is_sized(datagram: &[u8]) -> bool
 pub fn hash_part(datagram: &[u8]) -> &[u8]
     ensures { λ r. ⌜ now r ≡ hashOf (now (datagram .entry)) ⌝ }
 {
-    spans::bytes_of(datagram, Span { start: 0, len: 32 })
+    span::bytes_of(datagram, Span { start: 0, len: 32 })
 }
 
 // The packet's signature; nothing of a datagram that is too short.
 pub fn signature_part(datagram: &[u8]) -> &[u8]
     ensures { λ r. ⌜ now r ≡ signatureOf (now (datagram .entry)) ⌝ }
 {
-    spans::bytes_of(datagram, Span { start: 32, len: 65 })
+    span::bytes_of(datagram, Span { start: 32, len: 65 })
 }
 
 // Answer 4 if not: the hash is Keccak-256 of what follows it.
@@ -105,5 +105,5 @@ fn record_span(packet: Packet) -> Span
 pub fn record_part(datagram: &[u8]) -> &[u8]
     ensures { λ r. ⌜ now r ≡ recordOf (now (datagram .entry)) ⌝ }
 {
-    spans::bytes_of(datagram, record_span(packet_in(datagram)))
+    span::bytes_of(datagram, record_span(packet_in(datagram)))
 }
