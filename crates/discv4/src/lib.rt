@@ -37,6 +37,8 @@ pub use written::written_size;
 // ---- packets read
 // An accepted datagram's packet has numbers, and spans of the datagram: `field_part` gives the bytes of an address, a key, a target or a
 // hash, `node_count` and `node_at` the nodes of a Neighbors.
+pub use envelope::hash_part;
+pub use envelope::signature_part;
 pub use packet_items::EnrSeq;
 pub use packets::EnrRequest;
 pub use packets::EnrResponse;
@@ -50,9 +52,7 @@ pub use span::Span;
 pub use span::bytes_of as field_part;
 pub use spans::node_at;
 pub use spans::node_count;
-pub use wire::hash_part;
 pub use wire::record_part;
-pub use wire::signature_part;
 
 // ---- clocks and nodes
 pub use entry::Endpoint;
