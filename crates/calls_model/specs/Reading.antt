@@ -1,12 +1,13 @@
--- What a datagram reads as, for the rules of the table: the tests of crate wire in the order of their answer numbers.
+-- What a datagram reads as, for the rules of the table: the tests of the crates envelope and wire in the order of their answer numbers.
 use Prim.Native.Nat.{ℕ}
 use mathlib.Core.Bool.{cond}
 use lib.Dec.{eqb}
 use Rattle.octets.specs.Octets.{Bytes}
-use Rattle.spans.specs.Spans.{bytesOf}
+use Rattle.span.specs.Parts.{bytesOf}
 use Rattle.packets.specs.declared.Packet.{Packet}
 use Rattle.packets.specs.declared.Packet.the-variants.{Ping, Pong, FindNode, Neighbors, EnrRequest, EnrResponse, Refused}
-use Rattle.wire.specs.Datagram.{isSized, hashMatches, readAt}
+use Rattle.envelope.specs.Envelope.{isSized, hashMatches}
+use Rattle.wire.specs.Datagram.{readAt}
 use Rattle.history.specs.Model.{Fault, wrongLength, wrongHash, unknownType, badList, badField, expired, Reading, refused, ping, pong, other}
 
 -- the fault behind an answer number from 8 to 11

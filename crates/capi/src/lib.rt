@@ -8,6 +8,7 @@ ghost use Rattle.history.specs.Model as model;
 ghost use Rattle.calls_model.specs.Calls.{answerOn, bytesAfter};
 ghost use Rattle.calls_model.specs.Reading.{reading};
 ghost use Rattle.datagram_call.specs.Received.{received};
+ghost use Rattle.span.specs.Parts as span;
 ghost use Rattle.spans.specs.Spans as spans;
 ghost use Rattle.wire.specs.Datagram.{packetIn};
 ghost use Rattle.written.specs.Written.{written, writtenIn};
@@ -22,7 +23,7 @@ ghost use Rattle.bucket_head.specs.Head.{headNumber, headOn, unlessRefused};
 ghost use Rattle.packed_nodes.specs.Packed.{packedList, canPacked};
 use counters::Counters;
 use entry::Node;
-use spans::Span;
+use span::Span;
 
 // ---- the table's calls
 
@@ -162,7 +163,7 @@ pub extern "C" fn coghammer_packet(datagram: &[u8], fields: &mut [u64; 20]) -> u
 // How many nodes a Neighbors lists, by the start and length of its nodes.
 #[no_mangle]
 pub extern "C" fn coghammer_node_count(datagram: &[u8], start: usize, len: usize) -> usize
-    ensures { λ r. ⌜ r ≡ length (spans.nodesOf (spans.bytesOf (now (datagram .entry)) (record { start = start; len = len }))) ⌝ }
+    ensures { λ r. ⌜ r ≡ length (spans.nodesOf (span.bytesOf (now (datagram .entry)) (record { start = start; len = len }))) ⌝ }
 {
     discv4::node_count(datagram, Span { start, len })
 }
@@ -179,9 +180,9 @@ pub extern "C" fn coghammer_node_at(
     address: &mut [u8; 16],
     numbers: &mut [u64; 3],
 )
-    ensures { λ _. ⌜ now («node_key» .exit) ≡ spans.nodeAt n (spans.bytesOf (now (datagram .entry)) (record { start = start; len = len })) .key ⌝ }
-    ensures { λ _. ⌜ now (address .exit) ≡ spans.nodeAt n (spans.bytesOf (now (datagram .entry)) (record { start = start; len = len })) .endpoint .address ⌝ }
-    ensures { λ _. ⌜ now (numbers .exit) ≡ nodeNumbers (spans.nodeAt n (spans.bytesOf (now (datagram .entry)) (record { start = start; len = len }))) ⌝ }
+    ensures { λ _. ⌜ now («node_key» .exit) ≡ spans.nodeAt n (span.bytesOf (now (datagram .entry)) (record { start = start; len = len })) .key ⌝ }
+    ensures { λ _. ⌜ now (address .exit) ≡ spans.nodeAt n (span.bytesOf (now (datagram .entry)) (record { start = start; len = len })) .endpoint .address ⌝ }
+    ensures { λ _. ⌜ now (numbers .exit) ≡ nodeNumbers (spans.nodeAt n (span.bytesOf (now (datagram .entry)) (record { start = start; len = len }))) ⌝ }
 {
     let node = discv4::node_at(datagram, Span { start, len }, n);
     let key = node.key;

@@ -14,7 +14,8 @@ use Rattle.lists.proofs.First.{first-append}
 use Rattle.entry.specs.declared.UnixSeconds.{UnixSeconds}
 use Rattle.table_model.specs.Layout.{clockOf}
 use Rattle.packets.specs.declared.Packet.{Packet}
-use Rattle.wire.specs.Datagram.{isSized, hashMatches, readAt}
+use Rattle.envelope.specs.Envelope.{isSized, hashMatches}
+use Rattle.wire.specs.Datagram.{readAt}
 use Rattle.history.specs.Model.{Reading, isRefused, Call, datagram, slot, packetRefusals, datagramRefusals}
 use Rattle.calls_model.specs.Calls.{envOf, bucketFor, answerOn, bytesAfter}
 use Rattle.calls_model.specs.Reading.{packetReading, reading}

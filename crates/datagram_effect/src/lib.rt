@@ -52,7 +52,7 @@ pub fn packet_number(
         Packet::Ping(_) => 0,
         Packet::Pong(p) => {
             let hash = p.ping_hash;
-            pong_number(l, spans::bytes_of(datagram, hash), clock, address, port)
+            pong_number(l, span::bytes_of(datagram, hash), clock, address, port)
         }
         Packet::FindNode(_) => verified_number(l, clock, address, port),
         Packet::Neighbors(_) => verified_number(l, clock, address, port),

@@ -14,7 +14,8 @@ use Rattle.entry.specs.declared.UnixSeconds.{UnixSeconds}
 use Rattle.table_model.specs.Layout.{clockOf}
 use Rattle.packets.specs.declared.Packet.{Packet}
 use Rattle.packets.specs.declared.Packet.the-variants as packet
-use Rattle.wire.specs.Datagram.{isSized, hashMatches, readAt}
+use Rattle.envelope.specs.Envelope.{isSized, hashMatches}
+use Rattle.wire.specs.Datagram.{readAt}
 use Rattle.wire.proofs.Refusals.{Refusable, refusable}
 use Rattle.history.specs.Model.{wrongLength, wrongHash, Reading, refused, isRefused, isAddress, isOwn, isKept, slot}
 use Rattle.calls_model.specs.Reading.{faultOf, packetReading, reading}

@@ -10,7 +10,8 @@ use Rattle.entry.specs.declared.UnixSeconds.{UnixSeconds}
 use Rattle.table_model.specs.Layout.{clockOf}
 use Rattle.packets.specs.declared.Packet.{Packet}
 use Rattle.packets.specs.declared.Packet.the-variants as packet
-use Rattle.wire.specs.Datagram.{isSized, hashMatches, readAt}
+use Rattle.envelope.specs.Envelope.{isSized, hashMatches}
+use Rattle.wire.specs.Datagram.{readAt}
 use Rattle.history.specs.Model.{Reading, isRefused, isAddress, isOwn, isKept, slot}
 use Rattle.calls_model.specs.Calls.{envOf, unsoundFor}
 use Rattle.calls_model.specs.Reading.{reading}

@@ -34,10 +34,10 @@ fn datagram_number(
     if clock.0 < last.0 {
         return 2;
     }
-    if !wire::is_sized(datagram) {
+    if !envelope::is_sized(datagram) {
         return 3;
     }
-    if !wire::hash_matches(datagram) {
+    if !envelope::hash_matches(datagram) {
         return 4;
     }
     touched_bucket::key_number(touched, address)

@@ -37,6 +37,8 @@ pub use written::written_size;
 // ---- packets read
 // An accepted datagram's packet has numbers, and spans of the datagram: `field_part` gives the bytes of an address, a key, a target or a
 // hash, `node_count` and `node_at` the nodes of a Neighbors.
+pub use envelope::hash_part;
+pub use envelope::signature_part;
 pub use packet_items::EnrSeq;
 pub use packets::EnrRequest;
 pub use packets::EnrResponse;
@@ -46,13 +48,11 @@ pub use packets::Ping;
 pub use packets::Pong;
 pub use packets::Recipient;
 pub use packets::Sender;
-pub use spans::Span;
-pub use spans::bytes_of as field_part;
+pub use span::Span;
+pub use span::bytes_of as field_part;
 pub use spans::node_at;
 pub use spans::node_count;
-pub use wire::hash_part;
 pub use wire::record_part;
-pub use wire::signature_part;
 
 // ---- clocks and nodes
 pub use entry::Endpoint;

@@ -12,7 +12,7 @@ use packets::Packet;
 use packets::Ping;
 use packets::Pong;
 use packets::Recipient;
-use spans::Span;
+use span::Span;
 
 fn print_enr_seq(e: EnrSeq) {
     match e {
@@ -119,8 +119,8 @@ fn print_packet(g: &[u8], packet: Packet) {
 }
 
 pub fn print_read(g: &[u8], unix: u64) {
-    if wire::is_sized(g) {
-        if wire::hash_matches(g) {
+    if envelope::is_sized(g) {
+        if envelope::hash_matches(g) {
             print_packet(g, wire::read(g, UnixSeconds(unix)));
         } else {
             io::write_all(STDOUT_FILENO, b"4");

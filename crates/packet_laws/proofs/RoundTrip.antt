@@ -23,7 +23,8 @@ use Rattle.packets.specs.declared.PacketType.the-variants as type
 use Rattle.packets.specs.Accepted.{trailing, SeqFits, NodesGood, PingFields, PongFields, FindNodeFields, NeighborsFields, EnrRequestFields, EnrResponseFields}
 use Rattle.packets.proofs.Inversion.{ping-accepted, pong-accepted, find-node-accepted, enr-request-accepted, enr-response-accepted}
 use Rattle.packets.proofs.NodeLists.{neighbors-accepted}
-use Rattle.wire.specs.Datagram.{isSized, hashMatches, signatureOf, packetIn}
+use Rattle.envelope.specs.Envelope.{isSized, hashMatches, signatureOf}
+use Rattle.wire.specs.Datagram.{packetIn}
 use Rattle.packet_parts.specs.Parts.{body}
 use Rattle.lists.proofs.Laws.{and-left, and-right}
 use Rattle.packet_parts.specs.Writers.{isRecord, content}

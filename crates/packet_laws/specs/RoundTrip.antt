@@ -10,7 +10,8 @@ use Rattle.schema.specs.Shapes.{IsEndpoint}
 use Rattle.packets.specs.declared.Packet.{Packet}
 use Rattle.packets.specs.declared.Packet.the-variants as packet
 use Rattle.packets.specs.Accepted.{SeqFits, PingFields, pingFields, PongFields, pongFields, FindNodeFields, findNodeFields, NeighborsFields, neighborsFields, NodesGood, EnrRequestFields, enrRequestFields, EnrResponseFields, enrResponseFields}
-use Rattle.wire.specs.Datagram.{isSized, hashMatches, signatureOf, packetIn}
+use Rattle.envelope.specs.Envelope.{isSized, hashMatches, signatureOf}
+use Rattle.wire.specs.Datagram.{packetIn}
 use Rattle.packet_parts.specs.Parts.{body}
 use Rattle.packet_parts.specs.Writers.{pingBody, pongBody, findNodeBody, enrRequestBody, canEnrResponse, enrResponseBody}
 use Rattle.packet_join.specs.Join.{datagram}

@@ -15,7 +15,8 @@ use Rattle.schema_items.specs.declared.Verdict.{Verdict}
 use Rattle.schema_items.specs.declared.Verdict.the-variants.{Good, Broken, Wrong}
 use Rattle.schema.proofs.Shapes.{AllLimited}
 use Rattle.schema.proofs.Accepted.{small-data, good-accepted, accepted-good}
-use Rattle.spans.specs.Spans.{bytesOf, spanOf}
+use Rattle.span.specs.Parts.{bytesOf}
+use Rattle.spans.specs.Spans.{spanOf}
 use Rattle.packets.specs.Packets.{schemaOf, requiredOf, isKnown, packetOf, answered, readAs}
 use Rattle.packets.specs.declared.PacketType.{PacketType}
 use Rattle.packets.specs.declared.PacketType.the-variants as type

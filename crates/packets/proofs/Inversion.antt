@@ -12,7 +12,8 @@ use Rattle.packet_items.specs.Items.{uint, endpoint, pingItems, pongItems, find
 use Rattle.packet_items.specs.declared.EnrSeq.{EnrSeq}
 use Rattle.packet_items.specs.declared.EnrSeq.the-variants.{Absent, Present}
 use Rattle.schema.specs.Shapes.{IsEndpoint, Shapes, Begins, Accepted}
-use Rattle.spans.specs.Spans.{bytesOf, moved, spanOf, itemSpan, uintItem, enrSeqItem}
+use Rattle.span.specs.Parts.{bytesOf, moved}
+use Rattle.spans.specs.Spans.{spanOf, itemSpan, uintItem, enrSeqItem}
 use Rattle.packets.specs.Packets.{anyUint, schemaOf, senderOf, pingOf, pongOf, findNodeOf, enrRequestOf, enrResponseOf, readAs}
 use Rattle.packets.specs.Accepted.{trailing, SeqFits, PingFields, pingFields, PingEncoded, PongFields, pongFields, PongEncoded, FindNodeFields, findNodeFields, FindNodeEncoded, EnrRequestFields, enrRequestFields, EnrRequestEncoded, EnrResponseFields, enrResponseFields, EnrResponseEncoded}
 use Rattle.packets.specs.declared.PacketType.the-variants as type

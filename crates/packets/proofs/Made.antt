@@ -9,11 +9,12 @@ use Rattle.schema.specs.Schema.{verdict}
 use Rattle.schema_items.specs.declared.Kind.{Kind}
 use Rattle.schema_items.specs.declared.Verdict.{Verdict}
 use Rattle.schema_items.specs.declared.Verdict.the-variants.{Good}
-use Rattle.spans.specs.Spans.{bytesOf, moved, spanOf, portItem}
+use Rattle.span.specs.Parts.{bytesOf, moved}
+use Rattle.spans.specs.Spans.{spanOf, portItem}
 use Rattle.packets.specs.Packets.{senderOf, isKnown, schemaOf, requiredOf, packetOf, answered, readAs}
 use Rattle.packets.specs.declared.Packet.{Packet}
 use Rattle.packets.specs.declared.PacketType.{PacketType}
-use Rattle.spans.specs.declared.Span.{Span}
+use Rattle.span.specs.declared.Span.{Span}
 
 -- the endpoint that is item n
 module _ (base n : ℕ) (s : Bytes) (span : Span) (e : Bytes) (is : span ≡ spanOf n s) (bytes : e ≡ bytesOf s span) where

@@ -16,10 +16,12 @@ use Rattle.packet_items.specs.declared.EnrSeq.the-variants.{Absent, Present}
 use Rattle.schema_items.specs.Payload.{itemsOf}
 use Rattle.schema.specs.Shapes.{IsEndpoint, Begins}
 use Rattle.schema_items.proofs.Payload.{items-item, items-encodes}
-use Rattle.spans.specs.Spans.{bytesOf, moved, spanOf, itemSpan, itemAt, valueOf, uintItem, portItem, enrSeqItem}
+use Rattle.span.specs.Parts.{bytesOf, moved}
+use Rattle.spans.specs.Spans.{spanOf, itemSpan, itemAt, valueOf, uintItem, portItem, enrSeqItem}
 use Rattle.packets.specs.Packets.{senderOf}
-use Rattle.spans.specs.declared.Span.{Span}
-use Rattle.spans.proofs.Spans.{bytes-in, span-bound, item-span-bound, span-payload}
+use Rattle.span.specs.declared.Span.{Span}
+use Rattle.span.proofs.Parts.{bytes-in}
+use Rattle.spans.proofs.Spans.{span-bound, item-span-bound, span-payload}
 
 -- s is the bytes of g from `at` on
 pub record Lies (g : Bytes) (at : ℕ) (s : Bytes) : Type 0 where

@@ -10,7 +10,8 @@ use Rattle.packet_items.specs.declared.EnrSeq.{EnrSeq}
 use Rattle.packet_items.specs.declared.EnrSeq.the-variants.{Absent, Present}
 use Rattle.schema.specs.Shapes.{IsEndpoint, Begins}
 use Rattle.entry.specs.declared.Node.{Node}
-use Rattle.spans.specs.Spans.{bytesOf, padded, nodesOf}
+use Rattle.span.specs.Parts.{bytesOf}
+use Rattle.spans.specs.Spans.{padded, nodesOf}
 use Rattle.packets.specs.declared.Ping.{Ping}
 use Rattle.packets.specs.declared.Pong.{Pong}
 use Rattle.packets.specs.declared.FindNode.{FindNode}

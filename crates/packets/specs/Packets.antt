@@ -10,7 +10,8 @@ use Rattle.schema_items.specs.declared.Kind.the-variants.{Uint, Endpoint, Nodes
 use Rattle.schema_items.specs.declared.Kind.the-variants as kind
 use Rattle.schema_items.specs.declared.Verdict.{Verdict}
 use Rattle.schema_items.specs.declared.Verdict.the-variants.{Good, Broken, Wrong}
-use Rattle.spans.specs.Spans.{bytesOf, moved, spanOf, itemSpan, uintItem, portItem, enrSeqItem}
+use Rattle.span.specs.Parts.{bytesOf, moved}
+use Rattle.spans.specs.Spans.{spanOf, itemSpan, uintItem, portItem, enrSeqItem}
 use Rattle.packets.specs.declared.PacketType.{PacketType}
 use Rattle.packets.specs.declared.PacketType.the-variants as type
 use Rattle.packets.specs.declared.Packet.{Packet}

@@ -2,19 +2,19 @@
 ghost use mathlib.Core.Path.{_≡_};
 ghost use Prim.Native.Nat.{_+_, _≤_, _<_, _^_};
 ghost use lib.ListN.{length, take};
+ghost use Rattle.span.specs.Parts as span;
 ghost use Rattle.spans.specs.Spans.{spanOf};
-ghost use Rattle.spans.specs.Spans as spans;
 ghost use Rattle.packets.specs.Packets.{typeOf, schemaOf, requiredOf, senderOf, pingOf, pongOf, findNodeOf, neighborsOf, enrRequestOf, enrResponseOf, packetOf, readAs, readData};
 ghost use Rattle.packets.specs.Packets as spec;
 use packet_items::EnrSeq;
 use schema_items::Kind;
 use schema_items::Verdict;
-use spans::Span;
-use spans::bytes_of;
+use span::Span;
+use span::bytes_of;
+use span::moved;
 use spans::enr_seq_item;
 use spans::item_payload;
 use spans::item_span;
-use spans::moved;
 use spans::port_item;
 use spans::uint_item;
 
@@ -119,7 +119,7 @@ fn recipient_at(s: &[u8], base: usize, n: usize) -> Recipient
 // The payload of item `n` of the payload `s`, which begins at `base` of the datagram.
 fn payload_at(s: &[u8], base: usize, n: usize) -> Span
     requires { ⌜ base + length (now s) < 2 ^ 64 ⌝ }
-    ensures { λ r. ⌜ r ≡ spans.moved base (spanOf n (now (s .entry))) ⌝ }
+    ensures { λ r. ⌜ r ≡ span.moved base (spanOf n (now (s .entry))) ⌝ }
 {
     moved(base, item_payload(s, n))
 }

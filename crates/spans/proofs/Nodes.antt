@@ -3,8 +3,9 @@ use Prim.Native.Nat.{ℕ}
 use mathlib.Core.Path.{_≡_, ap, _∙_}
 use lib.ListN.{length, replicate}
 use Rattle.octets.specs.Octets.{Bytes, store}
-use Rattle.spans.specs.Spans.{bytesOf, spanOf, portItem, fitting, padded, nodeOf}
-use Rattle.spans.specs.declared.Span.{Span}
+use Rattle.span.specs.Parts.{bytesOf}
+use Rattle.span.specs.declared.Span.{Span}
+use Rattle.spans.specs.Spans.{spanOf, portItem, fitting, padded, nodeOf}
 use Rattle.spans.proofs.Spans.{payload-read}
 
 -- the node of a payload

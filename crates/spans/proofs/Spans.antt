@@ -1,11 +1,10 @@
 -- Laws of items by their number.
-use Prim.Native.Nat.{ℕ, zero, suc, _+_, _-_, _≤_, _<_}
+use Prim.Native.Nat.{ℕ, zero, suc, _+_, _-_, _≤_}
 use mathlib.Core.Path.{_≡_, refl, sym, ap, subst, _∙_}
 use mathlib.Core.Bool.{Bool}
 use mathlib.Core.List.{List, []}
-use native.Mathlib.Nat.{add-assoc, zero-add, add-sub-cancel-left}
+use native.Mathlib.Nat.{add-assoc, zero-add}
 use native.Mathlib.Omega.{arith}
-use borrow.Author.Tests.{le-leb, lt-leb}
 use lib.ListN.{length, take, drop, getD, length-drop, length-take, length-map, List·getD-map}
 use lib.Seq.{drop-drop}
 use Rattle.octets.specs.Octets.{Bytes, part}
@@ -18,21 +17,10 @@ use Rattle.rlp.specs.declared.Header.the-variants as read
 use Rattle.rlp.specs.declared.Uint.{Uint}
 use Rattle.schema_items.specs.Payload.{itemsOf}
 use Rattle.schema_items.proofs.Payload.{items-item, items-broken, payload-is, count-items}
-use Rattle.spans.specs.Spans.{bytesOf, moved, payloadSpan, spanOf, itemSpan, itemAt, valueOf, uintItem, nodeOf, nodesOf, nodeAt}
-use Rattle.spans.specs.declared.Span.{Span}
-
--- a span that lies inside
-pub bytes-in : (s : Bytes) (span : Span) → span .start + span .len ≤ length s → bytesOf s span ≡ part s (span .start) (span .len)
-bytes-in s span h = rw (le-leb (span .start + span .len) (length s) h)
-
-pub bytes-out : (s : Bytes) (span : Span) → length s < span .start + span .len → [] ≡ bytesOf s span
-bytes-out s span h = rw (lt-leb (span .start + span .len) (length s) h)
-
--- the part of the slice that the code takes
-pub bytes-part : (s : Bytes) (span : Span) → span .start + span .len ≤ length s → take (span .start + span .len - span .start) (drop (span .start) s) ≡ bytesOf s span
-unfolding part
-bytes-part s span h =
-    ap (λ (k : ℕ). take k (drop (span .start) s)) (add-sub-cancel-left (span .start) (span .len)) ∙ sym (bytes-in s span h)
+use Rattle.span.specs.Parts.{bytesOf, moved}
+use Rattle.span.specs.declared.Span.{Span}
+use Rattle.span.proofs.Parts.{bytes-in}
+use Rattle.spans.specs.Spans.{payloadSpan, spanOf, itemSpan, itemAt, valueOf, uintItem, nodeOf, nodesOf, nodeAt}
 
 module _ (n : ℕ) (s : Bytes) where
   pub span-is : {at : ℕ} {h : Header} → at ≡ offset n s → head (drop at s) ≡ h → payloadSpan h at ≡ spanOf n s

@@ -4,7 +4,7 @@ use mathlib.Core.Bool.{cond}
 use mathlib.Core.List.{List, [], map}
 use lib.Dec.{leb, ltb}
 use lib.ListN.{drop, length, getD, replicate}
-use Rattle.octets.specs.Octets.{Bytes, part, store}
+use Rattle.octets.specs.Octets.{Bytes, store}
 use Rattle.rlp.specs.Encoding.{Item, string, payloadOf}
 use Rattle.rlp.specs.Reading.{head, extent, offset, count, uintOf}
 use Rattle.rlp.specs.declared.Header.{Header}
@@ -15,14 +15,7 @@ use Rattle.schema_items.specs.Payload.{itemsOf}
 use Rattle.entry.specs.declared.Node.{Node}
 use Rattle.packet_items.specs.declared.EnrSeq.{EnrSeq}
 use Rattle.packet_items.specs.declared.EnrSeq.the-variants.{Absent, Present}
-use Rattle.spans.specs.declared.Span.{Span}
-
--- the bytes of s that a span names; none where it does not lie inside
-abbrev pub bytesOf : Bytes → Span → Bytes
-bytesOf s span = cond (leb (span .start + span .len) (length s)) (part s (span .start) (span .len)) []
-
-abbrev pub moved : ℕ → Span → Span
-moved by span = record { start = by + span .start; len = span .len }
+use Rattle.span.specs.declared.Span.{Span}
 
 -- the payload of the item whose header is at `at`
 abbrev pub payloadSpan : Header → ℕ → Span

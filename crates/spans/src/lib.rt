@@ -1,37 +1,16 @@
 // Parts of a datagram by their place: the items of a payload by number, their values, and the nodes of a list of nodes.
 ghost use mathlib.Core.Path.{_≡_};
-ghost use Prim.Native.Nat.{_+_, _<_, _^_};
 ghost use lib.ListN.{length};
 ghost use Rattle.octets.specs.Octets as octets;
-ghost use Rattle.spans.specs.Spans.{bytesOf, spanOf, itemSpan, uintItem, portItem, enrSeqItem, fitting, nodeOf, nodesOf, nodeAt};
-ghost use Rattle.spans.specs.Spans as spec;
+ghost use Rattle.span.specs.Parts.{bytesOf};
+ghost use Rattle.spans.specs.Spans.{spanOf, itemSpan, uintItem, portItem, enrSeqItem, fitting, nodeOf, nodesOf, nodeAt};
 use entry::Endpoint;
 use entry::Node;
 use packet_items::EnrSeq;
 use rlp::Header;
 use rlp::Uint;
-
-// Bytes of a datagram.
-pub struct Span {
-    pub start: usize,
-    pub len: usize,
-}
-
-// The bytes of a span; none where it does not lie inside the datagram.
-pub fn bytes_of(datagram: &[u8], span: Span) -> &[u8]
-    ensures { λ r. ⌜ now r ≡ bytesOf (now (datagram .entry)) span ⌝ }
-{
-    let start = span.start;
-    let len = span.len;
-    if datagram.len() < start {
-        return &datagram[0..0];
-    }
-    if datagram.len() - start < len {
-        return &datagram[0..0];
-    }
-    let end = start + len;
-    &datagram[start..end]
-}
+use span::Span;
+use span::bytes_of;
 
 // The payload of item `n` of the payload `s`.
 pub fn item_payload(s: &[u8], n: usize) -> Span
@@ -89,17 +68,6 @@ pub fn enr_seq_item(s: &[u8], n: usize) -> EnrSeq
         EnrSeq::Present(uint_item(s, n))
     } else {
         EnrSeq::Absent
-    }
-}
-
-// A span, `by` bytes further on.
-pub fn moved(by: usize, span: Span) -> Span
-    requires { ⌜ by + span .start < 2 ^ 64 ⌝ }
-    ensures { λ r. ⌜ r ≡ spec.moved by span ⌝ }
-{
-    Span {
-        start: by + span.start,
-        len: span.len,
     }
 }
 

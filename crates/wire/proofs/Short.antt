@@ -1,25 +1,12 @@
--- Datagrams that are too short for a hash or a type.
+-- Datagrams that are too short for a type.
 use Prim.Native.Nat.{ℕ, _<_}
-use mathlib.Core.Path.{_≡_, sym, ap, _∙_}
-use mathlib.Core.Bool.{false}
-use mathlib.Core.List.{[]}
+use mathlib.Core.Path.{_≡_, sym, ap}
 use native.Mathlib.Omega.{arith}
 use lib.ListN.{length, drop, List·getD-eq-default}
-use Rattle.octets.specs.Octets.{Bytes, sameBytes}
-use Rattle.octets.proofs.Laws.{same-ne}
-use Rattle.keccak.specs.Sponge.{keccak256}
-use Rattle.keccak.proofs.Laws.{keccak256-length}
+use Rattle.octets.specs.Octets.{Bytes}
 use Rattle.packets.specs.Packets.{typeOf, readAs, readData}
-use Rattle.spans.proofs.Spans.{bytes-out}
 use Rattle.packets.specs.declared.Packet.the-variants.{Refused}
-use Rattle.wire.specs.Datagram.{hashMatches, packetIn}
-
-pub short-hash : (g : Bytes) → length g < 32 → false ≡ hashMatches g
-unfolding hashMatches
-short-hash g h =
-    let k : Bytes = keccak256 (drop 32 g) in
-    sym (same-ne [] k (λ (e : [] ≡ k). omega (arith, ap length e, keccak256-length (drop 32 g))))
-    ∙ ap (λ (x : Bytes). sameBytes x k) (bytes-out g (record { start = 0; len = 32 }) h)
+use Rattle.wire.specs.Datagram.{packetIn}
 
 pub short-packet : (g : Bytes) → length g < 98 → Refused 8 ≡ packetIn g
 unfolding packetIn typeOf readAs

@@ -1,13 +1,14 @@
 -- Accepted datagrams.
 use Prim.Native.Nat.{_≤_}
 use mathlib.Core.Path.{_≡_, refl, sym, ap, _∙_}
-use mathlib.Core.Bool.{Bool, true, false, _&&_, false≢true}
+use mathlib.Core.Bool.{true, false}
 use native.Mathlib.Omega.{arith}
-use borrow.Author.Tests.{leb-true}
-use lib.Dec.{leb}
 use lib.ListN.{length, drop, getD, length-drop}
 use Rattle.octets.specs.Octets.{Bytes, Slice}
-use Rattle.spans.specs.Spans.{bytesOf, nodesOf}
+use Rattle.span.specs.Parts.{bytesOf}
+use Rattle.spans.specs.Spans.{nodesOf}
+use Rattle.envelope.specs.Envelope.{isSized}
+use Rattle.envelope.proofs.Laws.{sized}
 use Rattle.packets.specs.Packets.{typeOf, readAs}
 use Rattle.packets.specs.Accepted.{neighborsFields}
 use Rattle.packets.proofs.Accepted.{read-type}
@@ -15,16 +16,7 @@ use Rattle.packets.proofs.NodeLists.{neighbors-accepted, at-most-15}
 use Rattle.packets.specs.declared.PacketType.{PacketType}
 use Rattle.packets.specs.declared.Packet.the-variants.{EnrRequest, Neighbors, Refused}
 use Rattle.packets.specs.declared.Neighbors as neighbors
-use Rattle.wire.specs.Datagram.{isSized, packetIn, expired, readAt}
-
-both-true : (a b : Bool) → (a && b) ≡ true → (a ≡ true) × (b ≡ true)
-both-true true b e = (refl, e)
-both-true false b e = absurd (false≢true e)
-
-pub sized : (g : Bytes) → isSized g ≡ true → (98 ≤ length g) × (length g ≤ 1280)
-sized g h =
-    let r = both-true (leb 98 (length g)) (leb (length g) 1280) h in
-    (leb-true 98 (length g) (r .0), leb-true (length g) 1280 (r .1))
+use Rattle.wire.specs.Datagram.{packetIn, expired, readAt}
 
 -- an accepted Neighbors lists at most 15 nodes
 pub neighbors-at-most-15 : (g : Bytes) (p : neighbors.Neighbors) → Slice g → isSized g ≡ true → packetIn g ≡ Neighbors p → length (nodesOf (bytesOf g (p .nodes))) ≤ 15

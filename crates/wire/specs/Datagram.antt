@@ -1,30 +1,15 @@
 -- A datagram: hash (32), signature (65), type (1), data.
 use Prim.Native.Nat.{ℕ}
-use mathlib.Core.Bool.{Bool, false, cond, _&&_}
-use lib.Dec.{leb, ltb}
-use lib.ListN.{length, drop, getD}
-use Rattle.octets.specs.Octets.{Bytes, sameBytes}
-use Rattle.keccak.specs.Sponge.{keccak256}
+use mathlib.Core.Bool.{Bool, false, cond}
+use lib.Dec.{ltb}
+use lib.ListN.{drop, getD}
+use Rattle.octets.specs.Octets.{Bytes}
 use Rattle.entry.specs.declared.UnixSeconds.{UnixSeconds}
-use Rattle.spans.specs.Spans.{bytesOf}
+use Rattle.span.specs.Parts.{bytesOf}
 use Rattle.packets.specs.Packets.{readData}
-use Rattle.spans.specs.declared.Span.{Span}
+use Rattle.span.specs.declared.Span.{Span}
 use Rattle.packets.specs.declared.Packet.{Packet}
 use Rattle.packets.specs.declared.Packet.the-variants.{Ping, Pong, FindNode, Neighbors, EnrRequest, EnrResponse, Refused}
-
--- 98 to 1,280 bytes; answer 3 if not
-abbrev pub isSized : Bytes → Bool
-isSized g = leb 98 (length g) && leb (length g) 1280
-
-abbrev pub hashOf : Bytes → Bytes
-hashOf g = bytesOf g (record { start = 0; len = 32 })
-
-abbrev pub signatureOf : Bytes → Bytes
-signatureOf g = bytesOf g (record { start = 32; len = 65 })
-
--- the first 32 bytes are Keccak-256 of the rest; answer 4 if not
-unfoldable pub hashMatches : Bytes → Bool
-hashMatches g = sameBytes (hashOf g) (keccak256 (drop 32 g))
 
 -- the packet by its type and data, or answer 8, 9 or 10; spans are the datagram's
 unfoldable pub packetIn : Bytes → Packet

@@ -1,47 +1,11 @@
 // A datagram of the discv4 wire protocol: hash (32), signature (65), type (1), data. Each test of document 01 that reads
-// only the datagram is a function here; the table's tests go between them.
+// only the datagram is a function here or in the crate envelope; the table's tests go between them.
 ghost use mathlib.Core.Path.{_≡_};
-ghost use Rattle.wire.specs.Datagram.{isSized, hashOf, signatureOf, hashMatches, packetIn, recordOf, readAt};
+ghost use Rattle.wire.specs.Datagram.{packetIn, recordOf, readAt};
 ghost use Rattle.wire.specs.Datagram as spec;
 use entry::UnixSeconds;
 use packets::Packet;
-use spans::Span;
-
-// Answer 3 if not: 98 to 1,280 bytes.
-pub fn is_sized(datagram: &[u8]) -> bool
-    ensures { λ r. ⌜ r ≡ isSized (now (datagram .entry)) ⌝ }
-{
-    if 98 <= datagram.len() {
-        datagram.len() <= 1280
-    } else {
-        false
-    }
-}
-
-// The packet's hash; nothing of a datagram that is too short.
-pub fn hash_part(datagram: &[u8]) -> &[u8]
-    ensures { λ r. ⌜ now r ≡ hashOf (now (datagram .entry)) ⌝ }
-{
-    spans::bytes_of(datagram, Span { start: 0, len: 32 })
-}
-
-// The packet's signature; nothing of a datagram that is too short.
-pub fn signature_part(datagram: &[u8]) -> &[u8]
-    ensures { λ r. ⌜ now r ≡ signatureOf (now (datagram .entry)) ⌝ }
-{
-    spans::bytes_of(datagram, Span { start: 32, len: 65 })
-}
-
-// Answer 4 if not: the hash is Keccak-256 of what follows it.
-pub fn hash_matches(datagram: &[u8]) -> bool
-    ensures { λ r. ⌜ r ≡ hashMatches (now (datagram .entry)) ⌝ }
-{
-    if datagram.len() < 32 {
-        return false;
-    }
-    let hash = keccak::keccak256(&datagram[32..]);
-    octets::same_bytes(hash_part(datagram), &hash)
-}
+use span::Span;
 
 // The packet by its type and data, or answer 8, 9 or 10. The spans of its fields are the datagram's.
 pub fn packet_in(datagram: &[u8]) -> Packet
@@ -105,5 +69,5 @@ fn record_span(packet: Packet) -> Span
 pub fn record_part(datagram: &[u8]) -> &[u8]
     ensures { λ r. ⌜ now r ≡ recordOf (now (datagram .entry)) ⌝ }
 {
-    spans::bytes_of(datagram, record_span(packet_in(datagram)))
+    span::bytes_of(datagram, record_span(packet_in(datagram)))
 }

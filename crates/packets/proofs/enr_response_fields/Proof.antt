@@ -1,7 +1,7 @@
 -- `packets::enr_response_fields` meets its contract. Assumes nothing.
 use native.Mathlib.Omega.{arith}
 use mathlib.Core.Path.{ap, _∙_}
-use Rattle.spans.specs.Spans.{moved}
+use Rattle.span.specs.Parts.{moved}
 use Rattle.packets.specs.Packets.{enrResponseOf}
 use Rattle.spans.proofs.Spans.{item-span-fits}
 use borrow.Author.Needs.{needs}

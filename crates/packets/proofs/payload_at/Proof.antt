@@ -1,7 +1,7 @@
 -- `packets::payload_at` meets its contract. Assumes nothing.
 use native.Mathlib.Omega.{arith}
 use mathlib.Core.Path.{ap, _∙_}
-use Rattle.spans.specs.Spans.{moved}
+use Rattle.span.specs.Parts.{moved}
 use Rattle.spans.proofs.Spans.{span-fits}
 use borrow.Author.Needs.{needs}
 use Rattle.packets.proofs.payload_at.Statement.{statement}

@@ -1,6 +1,6 @@
 -- `wire::record_part` meets its contract. Assumes nothing.
 use mathlib.Core.Path.{ap, _∙_}
-use Rattle.spans.specs.Spans.{bytesOf}
+use Rattle.span.specs.Parts.{bytesOf}
 use Rattle.wire.specs.Datagram.{recordSpan}
 use borrow.Author.Needs.{needs}
 use Rattle.wire.proofs.record_part.Statement.{statement}

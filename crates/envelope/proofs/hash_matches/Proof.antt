@@ -1,13 +1,13 @@
--- `wire::hash_matches` meets its contract. Assumes nothing.
+-- `envelope::hash_matches` meets its contract. Assumes nothing.
 use mathlib.Core.Path.{ap, _∙_}
 use Rattle.octets.specs.Octets.{part, sameBytes}
 use Rattle.octets.proofs.Laws.{part-rest}
 use Rattle.keccak.specs.Sponge.{keccak256}
-use Rattle.wire.specs.Datagram.{hashMatches}
-use Rattle.wire.proofs.Short.{short-hash}
+use Rattle.envelope.specs.Envelope.{hashMatches}
+use Rattle.envelope.proofs.Laws.{short-hash}
 use borrow.Author.Needs.{needs}
-use Rattle.wire.proofs.hash_matches.Statement.{statement}
-use Rattle.wire.proofs.hash_matches.Tie as tie
+use Rattle.envelope.proofs.hash_matches.Statement.{statement}
+use Rattle.envelope.proofs.hash_matches.Tie as tie
 
 returns : tie.Need-returns
 returns c = short-hash (c .before .before .args .datagram .now) (c .if1 .taken)

@@ -1,7 +1,7 @@
--- `wire::is_sized` meets its contract. Assumes nothing.
+-- `envelope::is_sized` meets its contract. Assumes nothing.
 use borrow.Author.Tests.{le-leb, lt-leb}
-use Rattle.wire.proofs.is_sized.Statement.{statement}
-use Rattle.wire.proofs.is_sized.Tie as tie
+use Rattle.envelope.proofs.is_sized.Statement.{statement}
+use Rattle.envelope.proofs.is_sized.Tie as tie
 
 returns : tie.Need-returns
 returns c = rw (le-leb 98 _ (c .if1 .taken))

@@ -1,9 +1,9 @@
--- `spans::bytes_of` meets its contract. Assumes nothing.
+-- `span::bytes_of` meets its contract. Assumes nothing.
 use native.Mathlib.Omega.{arith}
-use Rattle.spans.proofs.Spans.{bytes-out, bytes-part}
+use Rattle.span.proofs.Parts.{bytes-out, bytes-part}
 use borrow.Author.Needs.{needs}
-use Rattle.spans.proofs.bytes_of.Statement.{statement}
-use Rattle.spans.proofs.bytes_of.Tie as tie
+use Rattle.span.proofs.bytes_of.Statement.{statement}
+use Rattle.span.proofs.bytes_of.Tie as tie
 
 returns : tie.Need-returns
 returns c = bytes-out (c .before .before .args .datagram .now) (c .before .before .args .span) (omega arith)
