@@ -1,8 +1,8 @@
 #!/usr/bin/env python3
-"""Prints the proof by hand (Proof.antt) of a counted call of the crate counted_calls, of its by-value form, or of its form for C.
+"""Prints the proof by hand (Proof.antt) of a counted call, of its by-value form, or of its form for C.
 
-    public_call.py call NAME MODEL ANSWER KIND..        counted_calls::NAME(counters: &mut Counters, table: &mut [u8], P1, ..)
-    public_call.py by-value NAME MODEL ANSWER KIND..    counted_calls::NAME_with(counters: Counters, table: &mut [u8], P1, ..)
+    public_call.py call NAME MODEL ANSWER KIND..        counted_NAME::NAME(counters: &mut Counters, table: &mut [u8], P1, ..)
+    public_call.py by-value NAME MODEL ANSWER KIND..    counted_NAME::NAME_with(counters: Counters, table: &mut [u8], P1, ..)
     public_call.py c-call NAME MODEL ANSWER KIND..      capi::coghammer_NAME(counters: &mut Counters, table: &mut [u8], P1, ..)
 
 NAME does its work by NAME_call::NAME_on, counts the answer's number and returns the answer; NAME_with lends a copy of its counters
@@ -170,14 +170,16 @@ def proof(mode, name, model, answer, *kinds):
     call = f"(model.{model} {' '.join(args)})"
     row, law, _, tell, makes, mir = plain(ANSWERS[answer], "TA")
     function = name + "_with" if by_value else "coghammer_" + name if for_c else name
-    crate, work_crate = ("capi", "plain_calls") if for_c else ("counted_calls", name + "_call")
+    crate, work_crate = ("capi", "plain_calls") if for_c else ("counted_" + name, name + "_call")
     values = {
         "name": name, "name-dashed": name.replace("_", "-"), "function": function, "function-dashed": function.replace("_", "-"),
-        "crate": crate, "crate-proofs": f"Rattle.{crate}.proofs", "work-crate": work_crate, "work-crate-dashed": work_crate.replace("_", "-"),
-        "work-proofs": f"Rattle.{work_crate}.proofs",
+        "crate": crate, "crate-dashed": crate.replace("_", "-"), "crate-proofs": f"Rattle.{crate}.proofs",
+        "work-crate": work_crate, "work-crate-dashed": work_crate.replace("_", "-"), "work-proofs": f"Rattle.{work_crate}.proofs",
         "number-name": NUMBERS[answer][0], "number-call": NUMBERS[answer][1].replace("::", "·").replace("_", "-"),
         "number-proofs": "Rattle.answer_code.proofs.number_in" if for_c else "Rattle.datagram_answer.proofs.number",
         "Answer": "Received" if answer == "received" else "ℕ", "Result": "CountedNumber" if number else "Counted", "field": answer,
+        "result-specs": "Rattle.counters.specs" if number else f"Rattle.{crate}.specs",
+        "result-proofs": "Rattle.counters.proofs" if number else f"Rattle.{crate}.proofs",
         "number-of-r": "r" if number else f"({NUMBERS[answer][0]} r)",
         "answer-row": row, "answer-lawful": law, "answer-tells": tell, "answer-makes": makes, "answer-mir": mir,
         "answer-is": f"r ≡ answerOn reading {table} {call}" if number else "r ≡ " + NUMBERS[answer][2].format(f"received {table} {' '.join(args)}"),
@@ -442,23 +444,23 @@ module _ {M : Type 1} (𝓤 : URA M) (H : Heap 𝓤) (A : Atoms 𝓤) (W : Given
 # ---- the proof of a by-value form
 
 BY_VALUE = """\
--- `counted_calls::‹function›` meets its contract: a walk of its MIR, by hand, printed by tools/public_call.py.
+-- `‹crate›::‹function›` meets its contract: a walk of its MIR, by hand, printed by tools/public_call.py.
 -- The counters that were passed by value are lent to `‹name›` for a lifetime that is made for the call, and are in memory again when that
 -- lifetime is over. The table is given up for good.
 -- All that the walk knows of `‹name›` is that it meets its contract. Assumes nothing.
 """ + USES + """\
-use Rattle.counted_calls.specs.declared.‹Result›.{‹Result›}
-use Rattle.counted_calls.proofs.‹Result› as TR
-use Rattle.counted_calls.proofs.‹Result›.Laws as TR′
-use Rattle.counted_calls.proofs.‹name› as callee
-use Rattle.counted_calls.proofs.‹name›.Symbol as callee-def
-use Rattle.counted_calls.proofs.‹name›.Symbol.{name as #callee}
-use Rattle.counted_calls.proofs.‹name›.Met as callee-thm
-use Rattle.counted_calls.proofs.‹function›.Key.{name as #self}
-use Rattle.counted_calls.proofs.‹function› as self
-use Rattle.counted_calls.proofs.‹function›.Statement as stated
-use Rattle.counted_calls.proofs.‹function›.Code as code
-use Rattle.counted_calls.proofs.‹function›.Code.Mir as code-mir
+use ‹result-specs›.declared.‹Result›.{‹Result›}
+use ‹result-proofs›.‹Result› as TR
+use ‹result-proofs›.‹Result›.Laws as TR′
+use ‹crate-proofs›.‹name› as callee
+use ‹crate-proofs›.‹name›.Symbol as callee-def
+use ‹crate-proofs›.‹name›.Symbol.{name as #callee}
+use ‹crate-proofs›.‹name›.Met as callee-thm
+use ‹crate-proofs›.‹function›.Key.{name as #self}
+use ‹crate-proofs›.‹function› as self
+use ‹crate-proofs›.‹function›.Statement as stated
+use ‹crate-proofs›.‹function›.Code as code
+use ‹crate-proofs›.‹function›.Code.Mir as code-mir
 
 -- the parameters' types, and what is had of each at exit: what says the table's last bytes, and nothing of the rest
 abbrev Params : Lfts ‹lifetimes› → List RattleType
@@ -574,7 +576,7 @@ module _ {M : Type 1} (𝓤 : URA M) (H : Heap 𝓤) (A : Atoms 𝓤) (W : Given
   goes : AllGo 𝓤 H A W ‹all-lifetimes› (self.signature .params) (self.ended .kept) stayed
   goes = (goes-dropped 𝓤 H A W ‹all-lifetimes› (plain (λ _. TC.the-row)) yes (λ κs x f. refl), ‹goes›)
 
-""" + MEETS + """    (cited 𝓤 H (tripleOf 𝓤 H (𝓖 .A) callee.signature (callee.spec 𝓤 H (𝓖 .A) (𝓜 .mem) (𝓡 .run))) 𝓜 𝓡 code.env #callee callee-def.routine code.calls-counted-calls·‹name-dashed› (callee-thm.met 𝓤 H 𝓜 𝓖 𝓡)))"""
+""" + MEETS + """    (cited 𝓤 H (tripleOf 𝓤 H (𝓖 .A) callee.signature (callee.spec 𝓤 H (𝓖 .A) (𝓜 .mem) (𝓡 .run))) 𝓜 𝓡 code.env #callee callee-def.routine code.calls-‹crate-dashed›·‹name-dashed› (callee-thm.met 𝓤 H 𝓜 𝓖 𝓡)))"""
 
 if __name__ == "__main__":
     if len(sys.argv) < 5 or sys.argv[1] not in ("call", "by-value", "c-call") or sys.argv[4] not in ANSWERS:

@@ -1,5 +1,5 @@
 #!/bin/sh
-# Writes the proofs by hand of the counted calls: of the crate counted_calls, of their by-value forms, and of their forms for C in the crate capi.
+# Writes the proofs by hand of the counted calls, each in a crate counted_NAME, of their by-value forms, and of their forms for C in the crate capi.
 cd "$(dirname "$0")/.." || exit 1
 
 # written MODE FOLDER NAME MODEL ANSWER KIND..: as public_call.py has them
@@ -12,8 +12,8 @@ written() {
 
 # both NAME MODEL ANSWER KIND..
 both() {
-    written call "counted_calls/proofs/$1" "$@"
-    written by-value "counted_calls/proofs/$1_with" "$@"
+    written call "counted_$1/proofs/$1" "$@"
+    written by-value "counted_$1/proofs/$1_with" "$@"
 }
 
 both datagram datagram received entry::MonotonicMillis entry::UnixSeconds slice u16 slice slice

@@ -75,7 +75,7 @@ fn data(s: &[u8]) -> &[u8] {
 fn run_datagram(table: &mut [u8], counters: Counters, s: &[u8]) -> Counters {
     let unix = UnixSeconds(case_lines::number(s, 13, 8));
     let port = short(s, 21);
-    let after = counted_calls::datagram_with(
+    let after = counted_datagram::datagram_with(
         counters,
         table,
         clock(s),
@@ -92,7 +92,7 @@ fn run_datagram(table: &mut [u8], counters: Counters, s: &[u8]) -> Counters {
 fn run_ping_sent(table: &mut [u8], counters: Counters, s: &[u8]) -> Counters {
     let udp = short(s, 21);
     let tcp = short(s, 23);
-    let after = counted_calls::ping_sent_with(
+    let after = counted_ping_sent::ping_sent_with(
         counters,
         table,
         clock(s),
@@ -107,7 +107,7 @@ fn run_ping_sent(table: &mut [u8], counters: Counters, s: &[u8]) -> Counters {
 }
 
 fn run_sweep(table: &mut [u8], counters: Counters, s: &[u8]) -> Counters {
-    let after = counted_calls::sweep_with(counters, table, clock(s));
+    let after = counted_sweep::sweep_with(counters, table, clock(s));
     print_answer(after.number);
     after.counters
 }

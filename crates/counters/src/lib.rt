@@ -9,6 +9,12 @@ pub struct Counters {
     pub counts: [u32; 22],
 }
 
+// The answer number of a call, and the counters after it.
+pub struct CountedNumber {
+    pub number: u8,
+    pub counters: Counters,
+}
+
 // Counters with every count 0: assign them to clear lent ones.
 pub fn cleared() -> Counters
     ensures { λ r. ⌜ r ≡ spec.cleared ⌝ }

@@ -2,12 +2,13 @@
 
 // ---- the table's calls
 // `init` makes lent bytes a fresh table. `datagram`, `ping_sent` and `sweep` count their answers in lent counters, `closest` fills a lent
-// list. Callers inside the repository have forms that take counters or list by value: crates counted_calls and closest_call.
+// list. Callers inside the repository have forms that take counters or list by value: crates counted_datagram,
+// counted_ping_sent, counted_sweep and closest_call.
 pub use closest_call::Listed;
 pub use closest_call::closest;
-pub use counted_calls::datagram;
-pub use counted_calls::ping_sent;
-pub use counted_calls::sweep;
+pub use counted_datagram::datagram;
+pub use counted_ping_sent::ping_sent;
+pub use counted_sweep::sweep;
 pub use table::init;
 // the answers
 pub use datagram_answer::Outcome;

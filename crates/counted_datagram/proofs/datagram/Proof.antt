@@ -1,4 +1,4 @@
--- `counted_calls::datagram` meets its contract: a walk of its MIR, by hand, printed by tools/public_call.py.
+-- `counted_datagram::datagram` meets its contract: a walk of its MIR, by hand, printed by tools/public_call.py.
 -- The call does its work by a covered function, `datagram_call::datagram_on`, and counts the answer in the counters that the caller lends.
 -- The counters are the first parameter, so that the tokens and what the other parameters own are, as they stand, what `datagram_on` asks.
 -- Both `&mut`s are given up for good: the table to `datagram_on`, and the counters to `counters::count`.
@@ -70,11 +70,11 @@ use Rattle.datagram_call.proofs.datagram_on as work
 use Rattle.datagram_call.proofs.datagram_on.Symbol as work-def
 use Rattle.datagram_call.proofs.datagram_on.Symbol.{name as #work}
 use Rattle.datagram_call.proofs.datagram_on.Met as work-thm
-use Rattle.counted_calls.proofs.datagram.Key.{name as #self}
-use Rattle.counted_calls.proofs.datagram as self
-use Rattle.counted_calls.proofs.datagram.Statement as stated
-use Rattle.counted_calls.proofs.datagram.Code as code
-use Rattle.counted_calls.proofs.datagram.Code.Mir as code-mir
+use Rattle.counted_datagram.proofs.datagram.Key.{name as #self}
+use Rattle.counted_datagram.proofs.datagram as self
+use Rattle.counted_datagram.proofs.datagram.Statement as stated
+use Rattle.counted_datagram.proofs.datagram.Code as code
+use Rattle.counted_datagram.proofs.datagram.Code.Mir as code-mir
 
 -- the parameters' types, and what is had of each at exit: what says the last counters, what says the table's last bytes, and nothing of
 -- the rest

@@ -1,4 +1,4 @@
--- `counted_calls::sweep_with` meets its contract: a walk of its MIR, by hand, printed by tools/public_call.py.
+-- `counted_sweep::sweep_with` meets its contract: a walk of its MIR, by hand, printed by tools/public_call.py.
 -- The counters that were passed by value are lent to `sweep` for a lifetime that is made for the call, and are in memory again when that
 -- lifetime is over. The table is given up for good.
 -- All that the walk knows of `sweep` is that it meets its contract. Assumes nothing.
@@ -55,18 +55,18 @@ use Rattle.counters.proofs.Counters as TC
 use Rattle.counters.proofs.Counters.Laws as TC′
 use Rattle.entry.proofs.MonotonicMillis as MonotonicMillis
 use Rattle.entry.proofs.MonotonicMillis.Laws as MonotonicMillis′
-use Rattle.counted_calls.specs.declared.CountedNumber.{CountedNumber}
-use Rattle.counted_calls.proofs.CountedNumber as TR
-use Rattle.counted_calls.proofs.CountedNumber.Laws as TR′
-use Rattle.counted_calls.proofs.sweep as callee
-use Rattle.counted_calls.proofs.sweep.Symbol as callee-def
-use Rattle.counted_calls.proofs.sweep.Symbol.{name as #callee}
-use Rattle.counted_calls.proofs.sweep.Met as callee-thm
-use Rattle.counted_calls.proofs.sweep_with.Key.{name as #self}
-use Rattle.counted_calls.proofs.sweep_with as self
-use Rattle.counted_calls.proofs.sweep_with.Statement as stated
-use Rattle.counted_calls.proofs.sweep_with.Code as code
-use Rattle.counted_calls.proofs.sweep_with.Code.Mir as code-mir
+use Rattle.counters.specs.declared.CountedNumber.{CountedNumber}
+use Rattle.counters.proofs.CountedNumber as TR
+use Rattle.counters.proofs.CountedNumber.Laws as TR′
+use Rattle.counted_sweep.proofs.sweep as callee
+use Rattle.counted_sweep.proofs.sweep.Symbol as callee-def
+use Rattle.counted_sweep.proofs.sweep.Symbol.{name as #callee}
+use Rattle.counted_sweep.proofs.sweep.Met as callee-thm
+use Rattle.counted_sweep.proofs.sweep_with.Key.{name as #self}
+use Rattle.counted_sweep.proofs.sweep_with as self
+use Rattle.counted_sweep.proofs.sweep_with.Statement as stated
+use Rattle.counted_sweep.proofs.sweep_with.Code as code
+use Rattle.counted_sweep.proofs.sweep_with.Code.Mir as code-mir
 
 -- the parameters' types, and what is had of each at exit: what says the table's last bytes, and nothing of the rest
 abbrev Params : Lfts 1 → List RattleType
@@ -197,4 +197,4 @@ sweep-with-spec 𝓤 H 𝓜 𝓖 𝓡 =
     entered 𝓤 H (tripleOf 𝓤 H (𝓖 .A) self.signature (self.spec 𝓤 H (𝓖 .A) (𝓜 .mem) (𝓡 .run)))
     (tables 𝓤 H 𝓜 𝓡 code.env .C) (tables 𝓤 H 𝓜 𝓡 code.env .Λ) #self code.function (code.unfolded 𝓤 H 𝓜 𝓡)
     (meets 𝓤 H (𝓖 .A) (givenOf 𝓤 H 𝓜 𝓖) (𝓜 .mem) (𝓡 .run) (tablesOf 𝓤 H 𝓜 (tables 𝓤 H 𝓜 𝓡 code.env))
-    (cited 𝓤 H (tripleOf 𝓤 H (𝓖 .A) callee.signature (callee.spec 𝓤 H (𝓖 .A) (𝓜 .mem) (𝓡 .run))) 𝓜 𝓡 code.env #callee callee-def.routine code.calls-counted-calls·sweep (callee-thm.met 𝓤 H 𝓜 𝓖 𝓡)))
+    (cited 𝓤 H (tripleOf 𝓤 H (𝓖 .A) callee.signature (callee.spec 𝓤 H (𝓖 .A) (𝓜 .mem) (𝓡 .run))) 𝓜 𝓡 code.env #callee callee-def.routine code.calls-counted-sweep·sweep (callee-thm.met 𝓤 H 𝓜 𝓖 𝓡)))

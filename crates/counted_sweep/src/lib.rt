@@ -1,0 +1,36 @@
+// The sweep call of the public library: it works on the lent table, counts its answer number in the lent counters, and answers.
+// tools/walks.sh prints its proof and that of its by-value form.
+ghost use mathlib.Core.Path.{_≡_};
+ghost use Rattle.history.specs.Model as model;
+ghost use Rattle.calls_model.specs.Calls.{answerOn, bytesAfter};
+ghost use Rattle.calls_model.specs.Reading.{reading};
+ghost use Rattle.counters.specs.Counters.{raised};
+use counters::CountedNumber;
+use counters::Counters;
+use entry::MonotonicMillis;
+
+// Nodes that did not answer in time go, then replacements with an expired proof, and proved replacements take free entries. The answer
+// number.
+pub fn sweep(counters: &mut Counters, table: &mut [u8], clock: MonotonicMillis) -> u8
+    ensures { λ r. ⌜ r ≡ answerOn reading (now (table .entry)) (model.sweep (clock .0)) ⌝ }
+    ensures { λ r. ⌜ now (table .exit) ≡ bytesAfter reading (now (table .entry)) (model.sweep (clock .0)) ⌝ }
+    ensures { λ r. ⌜ now (counters .exit) ≡ raised (now (counters .entry)) r ⌝ }
+{
+    let answer = sweep_call::sweep_on(table, clock);
+    counters::count(counters, answer);
+    answer
+}
+
+// The same call with the counters by value, for callers inside the repository: a function that calls this needs no proof by hand.
+pub fn sweep_with(counters: Counters, table: &mut [u8], clock: MonotonicMillis) -> CountedNumber
+    ensures { λ r. ⌜ r .number ≡ answerOn reading (now (table .entry)) (model.sweep (clock .0)) ⌝ }
+    ensures { λ r. ⌜ now (table .exit) ≡ bytesAfter reading (now (table .entry)) (model.sweep (clock .0)) ⌝ }
+    ensures { λ r. ⌜ r .counters ≡ raised counters (r .number) ⌝ }
+{
+    let mut counted = counters;
+    let number = sweep(&mut counted, table, clock);
+    CountedNumber {
+        number,
+        counters: counted,
+    }
+}
