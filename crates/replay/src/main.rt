@@ -5,7 +5,7 @@ ghost use mathlib.Core.Bool.{true, false};
 ghost use Prim.Native.Nat.{_+_, _≤_, _<_};
 ghost use lib.ListN.{length};
 ghost use Rattle.lines.specs.Steps.{fresh};
-ghost use Rattle.answer_line.specs.AnswerLine.{answerRoom};
+ghost use Rattle.answer_rows.specs.AnswerRows.{answerRoom};
 ghost use Rattle.own_line.specs.Answered.{stateOf};
 ghost use Rattle.log_replay.specs.Replay.{Reached};
 ghost use Rattle.replay.specs.Progress.{Ready, left};
