@@ -3,7 +3,7 @@ use Prim.Native.Nat.{ℕ, _≤_}
 use mathlib.Core.Path.{_≡_, ap, _∙_}
 use lib.ListN.{length}
 use Rattle.octets.specs.Octets.{Bytes, store}
-use Rattle.answer_line.specs.AnswerLine.{answerRoom}
+use Rattle.answer_rows.specs.AnswerRows.{answerRoom}
 
 module _ {A : Type 0} (row : A → Bytes) (out : Bytes) {out′ t : Bytes} {n : ℕ} {a : A} where
   -- a call answered a, which is b, and left t, which is t′; and the row of a was written

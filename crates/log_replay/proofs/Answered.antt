@@ -9,7 +9,7 @@ use Rattle.octets.specs.Octets.{Bytes, store}
 use Rattle.lines.specs.Lines.{whole}
 use Rattle.log_line.specs.declared.Line.{Line}
 use Rattle.log_line.specs.Forms.{lineOf}
-use Rattle.answer_line.specs.AnswerLine.{answerRoom}
+use Rattle.answer_rows.specs.AnswerRows.{answerRoom}
 use Rattle.own_line.specs.declared.Replay.{Replay}
 use Rattle.own_line.specs.declared.Stepped.{Stepped}
 use Rattle.own_line.specs.Answered.{sizeOf, stateOf, Answered}

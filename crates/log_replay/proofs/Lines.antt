@@ -19,7 +19,8 @@ use Rattle.calls_model.specs.Reading.{reading}
 use Rattle.calls_model.specs.AnyBytes.{SoundFor}
 use Rattle.calls_model.proofs.AnyBytes.{on-any-bytes}
 use Rattle.datagram_call.specs.Received.{received}
-use Rattle.answer_line.specs.AnswerLine.{numberRow, receivedRow}
+use Rattle.answer_rows.specs.AnswerRows.{numberRow}
+use Rattle.answer_line.specs.AnswerLine.{receivedRow}
 use Rattle.log_replay.specs.Replay.{withTable, lineAnswer, lineAfter, answer, after}
 
 -- no bytes are no table

@@ -11,7 +11,7 @@ use Rattle.lines.specs.Lines.{limit, Held, tooLong}
 use Rattle.lines.specs.Steps.{fresh}
 use Rattle.lines.specs.Feeding.{Feeds, join}
 use Rattle.lines.proofs.Chunks.{feeds-lines}
-use Rattle.answer_line.specs.AnswerLine.{answerRoom, numberRow}
+use Rattle.answer_rows.specs.AnswerRows.{answerRoom, numberRow}
 use Rattle.own_line.specs.declared.Replay.{Replay}
 use Rattle.own_line.specs.OwnLine.{startState}
 use Rattle.own_line.specs.Answered.{sizeOf, stateOf}

@@ -12,7 +12,8 @@ use Rattle.history.specs.Model.{datagram, pingSent, sweep}
 use Rattle.calls_model.specs.Calls.{answerOn, bytesAfter}
 use Rattle.calls_model.specs.Reading.{reading}
 use Rattle.datagram_call.specs.Received.{received}
-use Rattle.answer_line.specs.AnswerLine.{numberRow, receivedRow}
+use Rattle.answer_rows.specs.AnswerRows.{numberRow}
+use Rattle.answer_line.specs.AnswerLine.{receivedRow}
 use Rattle.own_line.specs.OwnLine.{State, startState, ownAnswer, ownAfter}
 use Rattle.printout.specs.Printout.{printout}
 

@@ -4,7 +4,7 @@ use mathlib.Core.List.{List, [], _∷_, _++_}
 use lib.ListN.{length, take}
 use Rattle.octets.specs.Octets.{Bytes}
 use Rattle.lines.specs.Lines.{Held}
-use Rattle.answer_line.specs.AnswerLine.{answerRoom}
+use Rattle.answer_rows.specs.AnswerRows.{answerRoom}
 use Rattle.own_line.specs.declared.Replay.{Replay}
 use Rattle.own_line.specs.declared.Stepped.{Stepped}
 use Rattle.own_line.specs.Answered.{stateOf, Answered}

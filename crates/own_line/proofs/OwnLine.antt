@@ -19,7 +19,7 @@ use Rattle.table_model.proofs.Sound.{sized-table}
 use Rattle.table_model.proofs.Fresh.{fresh-form}
 use Rattle.table.specs.Init.{initAnswer, initTable, freshTable}
 use Rattle.table.proofs.Fresh.{room}
-use Rattle.answer_line.specs.AnswerLine.{answerRoom, numberRow}
+use Rattle.answer_rows.specs.AnswerRows.{answerRoom, numberRow}
 use Rattle.own_line.specs.declared.Replay.{Replay}
 use Rattle.own_line.specs.OwnLine.{isCount, ownNumber, ownAnswer, ownAfter}
 use Rattle.own_line.specs.Answered.{sizeOf, stateOf, Answered}

@@ -6,7 +6,7 @@ use lib.Dec.{eqb}
 use lib.ListN.{length, take}
 use Rattle.octets.specs.Octets.{Bytes, store}
 use Rattle.table_model.specs.Layout.{offsetOf}
-use Rattle.answer_line.specs.AnswerLine.{answerRoom}
+use Rattle.answer_rows.specs.AnswerRows.{answerRoom}
 use Rattle.own_line.specs.OwnLine.{State}
 use Rattle.own_line.specs.declared.Replay.{Replay}
 use Rattle.own_line.specs.declared.Stepped.{Stepped}

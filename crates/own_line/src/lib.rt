@@ -7,10 +7,10 @@ ghost use lib.ListN.{length};
 ghost use Rattle.octets.specs.Octets.{store};
 ghost use Rattle.table.specs.Init.{freshTable};
 ghost use Rattle.log_line.specs.Fields.{said};
-ghost use Rattle.answer_line.specs.AnswerLine.{answerRoom, numberRow};
+ghost use Rattle.answer_rows.specs.AnswerRows.{answerRoom, numberRow};
 ghost use Rattle.own_line.specs.OwnLine.{ownNumber, ownAnswer, ownAfter};
 ghost use Rattle.own_line.specs.Answered.{sizeOf, stateOf, Answered};
-use answer_line::put_number;
+use answer_rows::put_number;
 use log_line::Span;
 use log_line::decode_field;
 

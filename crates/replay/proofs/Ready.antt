@@ -9,7 +9,7 @@ use Rattle.octets.proofs.Laws.{length-store}
 use Rattle.lines.specs.Lines.{Held}
 use Rattle.lines.specs.declared.Begun.{Begun}
 use Rattle.lines.specs.Steps.{fresh}
-use Rattle.answer_line.specs.AnswerLine.{answerRoom}
+use Rattle.answer_rows.specs.AnswerRows.{answerRoom}
 use Rattle.own_line.specs.declared.Replay.{Replay}
 use Rattle.own_line.specs.declared.Stepped.{Stepped}
 use Rattle.own_line.specs.Answered.{stateOf}

@@ -2,7 +2,7 @@
 use Rattle.history.specs.Model.{pingSent}
 use Rattle.calls_model.specs.Calls.{answerOn, bytesAfter}
 use Rattle.calls_model.specs.Reading.{reading}
-use Rattle.answer_line.specs.AnswerLine.{numberRow}
+use Rattle.answer_rows.specs.AnswerRows.{numberRow}
 use Rattle.log_line.proofs.Decoded.{decoded}
 use Rattle.line_calls.proofs.Lines.{answered-three}
 use borrow.Author.Needs.{needs}

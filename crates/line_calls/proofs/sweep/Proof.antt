@@ -1,5 +1,5 @@
 -- `line_calls::sweep` meets its contract. Assumes nothing.
-use Rattle.answer_line.specs.AnswerLine.{numberRow}
+use Rattle.answer_rows.specs.AnswerRows.{numberRow}
 use Rattle.line_calls.proofs.Lines.{answered}
 use borrow.Author.Needs.{needs}
 use Rattle.line_calls.proofs.sweep.Statement.{statement}

@@ -5,7 +5,8 @@ use Rattle.calls_model.specs.Calls.{answerOn, bytesAfter}
 use Rattle.calls_model.specs.Reading.{reading}
 use Rattle.datagram_call.specs.Received.{received}
 use Rattle.log_line.specs.Fields.{said}
-use Rattle.answer_line.specs.AnswerLine.{numberRow, receivedRow}
+use Rattle.answer_rows.specs.AnswerRows.{numberRow}
+use Rattle.answer_line.specs.AnswerLine.{receivedRow}
 use Rattle.log_replay.specs.Replay.{lineAfter, lineAnswer}
 use Rattle.log_replay.proofs.Fields.{read-short, read-spans}
 use Rattle.log_replay.proofs.Answered.{unchanged, called, by-line}

@@ -1,7 +1,7 @@
--- `answer_line::put_pong` meets its contract. Assumes nothing.
+-- `answer_rows::put_pong` meets its contract. Assumes nothing.
 use borrow.Author.Needs.{needs}
-use Rattle.answer_line.proofs.put_pong.Statement.{statement}
-use Rattle.answer_line.proofs.put_pong.Tie as tie
+use Rattle.answer_rows.proofs.put_pong.Statement.{statement}
+use Rattle.answer_rows.proofs.put_pong.Tie as tie
 
 returns : tie.Need-returns
 returns c = rw (c .before .before .before .before .before .enum-told .given .1) (c .before .before .put-word-row .ensures)

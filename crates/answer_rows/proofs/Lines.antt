@@ -15,7 +15,7 @@ use Rattle.entry.proofs.PingState as PS
 use Rattle.entry.proofs.PingState.Laws as PS′
 use Rattle.entry.proofs.Laws.{PingFits}
 use Rattle.text.specs.Rows.{row}
-use Rattle.answer_line.specs.AnswerLine.{answerRoom}
+use Rattle.answer_rows.specs.AnswerRows.{answerRoom}
 use Rattle.rows.proofs.Rows.{pieces, total, length-row, Writing, begin, end}
 
 module _ (d first : Bytes) (more : List Bytes) (fits : length first + total more + 1 ≤ answerRoom) where

@@ -1,4 +1,4 @@
--- `answer_line::put_number` meets its contract. Assumes nothing.
+-- `answer_rows::put_number` meets its contract. Assumes nothing.
 use Prim.Native.Nat.{_+_, _≤_}
 use lib.ListN.{length}
 use mathlib.Core.List.{[]}
@@ -6,12 +6,12 @@ use Rattle.octets.proofs.Progress.{room, step}
 use Rattle.text.specs.Decimals.{decimal}
 use Rattle.text.proofs.Decimals.{length-bound}
 use Rattle.rows.proofs.Rows.{pieces, total, Writing}
-use Rattle.answer_line.specs.AnswerLine.{answerRoom}
-use Rattle.answer_line.proofs.Lines.{begin-line, end-line}
+use Rattle.answer_rows.specs.AnswerRows.{answerRoom}
+use Rattle.answer_rows.proofs.Lines.{begin-line, end-line}
 use borrow.Author.Needs.{needs}
 use native.Mathlib.Omega.{arith}
-use Rattle.answer_line.proofs.put_number.Statement.{statement}
-use Rattle.answer_line.proofs.put_number.Tie as tie
+use Rattle.answer_rows.proofs.put_number.Statement.{statement}
+use Rattle.answer_rows.proofs.put_number.Tie as tie
 
 fits : (c : tie.Start) → length (decimal (c .args .n)) + total [] + 1 ≤ answerRoom
 fits c = omega (arith, length-bound (c .args .n) (omega arith))

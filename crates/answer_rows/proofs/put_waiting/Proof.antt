@@ -1,4 +1,4 @@
--- `answer_line::put_waiting` meets its contract. Assumes nothing.
+-- `answer_rows::put_waiting` meets its contract. Assumes nothing.
 use Prim.Native.Nat.{_+_, _≤_}
 use mathlib.Core.List.{List}
 use Rattle.octets.specs.Octets.{Bytes}
@@ -7,13 +7,13 @@ use Rattle.text.specs.Decimals.{decimal}
 use Rattle.text.proofs.Decimals.{length-one}
 use lib.ListN.{length}
 use Rattle.datagram_answer.specs.declared.Standing.the-variants.{Waiting}
-use Rattle.answer_line.specs.AnswerLine.{answerRoom, pongFields}
+use Rattle.answer_rows.specs.AnswerRows.{answerRoom, pongFields}
 use Rattle.rows.proofs.Rows.{pieces, total, Writing, key-bound, ping-bound}
-use Rattle.answer_line.proofs.Lines.{begin-line, end-line, ping-fits}
+use Rattle.answer_rows.proofs.Lines.{begin-line, end-line, ping-fits}
 use borrow.Author.Needs.{needs}
 use native.Mathlib.Omega.{arith}
-use Rattle.answer_line.proofs.put_waiting.Statement.{statement}
-use Rattle.answer_line.proofs.put_waiting.Tie as tie
+use Rattle.answer_rows.proofs.put_waiting.Statement.{statement}
+use Rattle.answer_rows.proofs.put_waiting.Tie as tie
 
 abbrev fields : tie.Start → List Bytes
 fields c = pongFields (Waiting (c .args .ping)) (c .args .key)

@@ -1,7 +1,7 @@
--- `answer_line::put_ping` meets its contract. Assumes nothing.
+-- `answer_rows::put_ping` meets its contract. Assumes nothing.
 use borrow.Author.Needs.{needs}
-use Rattle.answer_line.proofs.put_ping.Statement.{statement}
-use Rattle.answer_line.proofs.put_ping.Tie as tie
+use Rattle.answer_rows.proofs.put_ping.Statement.{statement}
+use Rattle.answer_rows.proofs.put_ping.Tie as tie
 
 returns : tie.Need-returns
 returns c = rw (c .before .before .before .before .before .before .if1 .taken) (c .before .before .put-words-row .ensures)
