@@ -41,10 +41,10 @@ pub fn write_enr_request(buf: &mut [u8], expiration: u64) -> Written
     ensures answer { λ r. ⌜ r ≡ written true (enrRequestBody expiration) (now (buf .entry)) ⌝ }
     ensures bytes { λ _. ⌜ now (buf .exit) ≡ writtenIn true (enrRequestBody expiration) (now (buf .entry)) ⌝ }
 {
-    let size = rlp::uint_size(expiration);
+    let size = rlp_writer::uint_size(expiration);
     if body_size(size) <= buf.len() {
         let at = put_start(buf, 5, size);
-        return Written::Done(rlp::write_uint(buf, at, expiration));
+        return Written::Done(rlp_writer::write_uint(buf, at, expiration));
     }
     Written::Short
 }
@@ -58,7 +58,7 @@ pub fn write_enr_response(buf: &mut [u8], request_hash: &[u8], record: &[u8]) ->
         let size = 33 + record.len();
         if body_size(size) <= buf.len() {
             let at = put_start(buf, 6, size);
-            let at = rlp::write_string(buf, at, request_hash);
+            let at = rlp_writer::write_string(buf, at, request_hash);
             octets::put_bytes(buf, at, record);
             return Written::Done(at + record.len());
         }

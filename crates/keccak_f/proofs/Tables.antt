@@ -1,12 +1,11 @@
--- The published rules of the round constants and of the rotation offsets give the published figures, each by one equation that antt
--- computes. Assumes nothing.
+-- The published rule of the round constants gives the published figures, by one equation that antt computes. Assumes nothing.
 use mathlib.Core.Path.{_≡_, refl, ap, _∙_, sym}
 use mathlib.Core.List.{List, [], _∷_}
 use Prim.Native.Nat.{ℕ, zero, suc, _+_, _<_}
 use native.Mathlib.Nat.{zero-add, add-zero, add-suc, suc-add, le-of-suc-le-suc, not-suc-le-zero}
 use lib.ListN.{getD}
 use Rattle.keccak_steps.specs.Lanes.{each, listOf}
-use Rattle.keccak_steps.specs.Permutation.{offsets, power, rc, constantBits, roundConstant}
+use Rattle.keccak_steps.specs.Permutation.{power, rc, constantBits, roundConstant}
 
 abbrev pub publishedConstants : List ℕ
 publishedConstants =
@@ -21,24 +20,12 @@ pub round-constants : listOf 24 roundConstant ≡ publishedConstants
 unfolding roundConstant constantBits rc power
 round-constants = refl
 
--- a row for each y
-abbrev pub publishedOffsets : List ℕ
-publishedOffsets =
-    0 ∷ 1 ∷ 62 ∷ 28 ∷ 27
-    ∷ 36 ∷ 44 ∷ 6 ∷ 55 ∷ 20
-    ∷ 3 ∷ 10 ∷ 43 ∷ 25 ∷ 39
-    ∷ 41 ∷ 45 ∷ 15 ∷ 21 ∷ 8
-    ∷ 18 ∷ 2 ∷ 61 ∷ 56 ∷ 14 ∷ []
-
-pub rotation-offsets : offsets ≡ publishedOffsets
-rotation-offsets = refl
-
 -- what stands at place k of `each f from n`
 each-at : (f : ℕ → ℕ) (n from k : ℕ) → k < n → getD (each f from n) k 0 ≡ f (from + k)
 each-at f zero from k h = absurd (not-suc-le-zero h)
 each-at f (suc n) from zero h = ap f (sym (add-zero from))
 each-at f (suc n) from (suc k) h = each-at f n (suc from) k (le-of-suc-le-suc h) ∙ ap f (suc-add from k ∙ sym (add-suc from k))
 
--- an entry of the table; the offsets need no such law, since the code reads each of them at a known place
+-- an entry of the table
 pub constant-at : (i : ℕ) → i < 24 → getD publishedConstants i 0 ≡ roundConstant i
 constant-at i h = ap (λ (l : List ℕ). getD l i 0) (sym round-constants) ∙ each-at roundConstant 24 0 i h ∙ ap roundConstant (zero-add i)

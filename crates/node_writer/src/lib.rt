@@ -14,11 +14,11 @@ pub fn write_find_node(buf: &mut [u8], target: &[u8], expiration: u64) -> Writte
     ensures bytes { λ _. ⌜ now (buf .exit) ≡ writtenIn (canFindNode (now (target .entry))) (findNodeBody (now (target .entry)) expiration) (now (buf .entry)) ⌝ }
 {
     if target.len() == 64 {
-        let size = 66 + rlp::uint_size(expiration);
+        let size = 66 + rlp_writer::uint_size(expiration);
         if body_size(size) <= buf.len() {
             let at = put_start(buf, 3, size);
-            let at = rlp::write_string(buf, at, target);
-            return Written::Done(rlp::write_uint(buf, at, expiration));
+            let at = rlp_writer::write_string(buf, at, target);
+            return Written::Done(rlp_writer::write_uint(buf, at, expiration));
         }
         return Written::Short;
     }
@@ -32,12 +32,12 @@ pub fn write_neighbors(buf: &mut [u8], nodes: NodeList, expiration: u64) -> Writ
 {
     if packet_parts::nodes_writable(nodes) {
         let inner = packet_parts::nodes_size(nodes);
-        let size = rlp::header_size(inner) + inner + rlp::uint_size(expiration);
+        let size = rlp::header_size(inner) + inner + rlp_writer::uint_size(expiration);
         if body_size(size) <= buf.len() {
             let at = put_start(buf, 4, size);
-            let at = rlp::write_header(buf, at, 192, inner);
+            let at = rlp_writer::write_header(buf, at, 192, inner);
             let at = packet_parts::put_nodes(buf, at, nodes);
-            return Written::Done(rlp::write_uint(buf, at, expiration));
+            return Written::Done(rlp_writer::write_uint(buf, at, expiration));
         }
         return Written::Short;
     }

@@ -42,7 +42,7 @@ pub fn put_start(buf: &mut [u8], kind: u8, size: usize) -> usize
     ensures bytes { λ _. ⌜ now (buf .exit) ≡ store (now (buf .entry)) 0 (kind ∷ header 192 size) ⌝ }
 {
     buf[0] = kind;
-    rlp::write_header(buf, 1, 192, size)
+    rlp_writer::write_header(buf, 1, 192, size)
 }
 
 // The size of the items of an endpoint.
@@ -50,7 +50,7 @@ fn fields_size(address: &[u8], udp: u16, tcp: u16) -> usize
     requires { ⌜ isAddress (now address) ≡ true ⌝ }
     ensures { λ r. ⌜ (r ≡ length (encodes (fields (now (address .entry)) udp tcp))) × (r ≤ 23) ⌝ }
 {
-    1 + address.len() + rlp::uint_size(udp as u64) + rlp::uint_size(tcp as u64)
+    1 + address.len() + rlp_writer::uint_size(udp as u64) + rlp_writer::uint_size(tcp as u64)
 }
 
 // Writes the items of an endpoint.
@@ -59,9 +59,9 @@ fn put_fields(buf: &mut [u8], at: usize, address: &[u8], udp: u16, tcp: u16) -> 
     ensures next { λ r. ⌜ r ≡ at + length (encodes (fields (now (address .entry)) udp tcp)) ⌝ }
     ensures bytes { λ _. ⌜ now (buf .exit) ≡ store (now (buf .entry)) at (encodes (fields (now (address .entry)) udp tcp)) ⌝ }
 {
-    let a = rlp::write_string(buf, at, address);
-    let b = rlp::write_uint(buf, a, udp as u64);
-    rlp::write_uint(buf, b, tcp as u64)
+    let a = rlp_writer::write_string(buf, at, address);
+    let b = rlp_writer::write_uint(buf, a, udp as u64);
+    rlp_writer::write_uint(buf, b, tcp as u64)
 }
 
 // The size of an endpoint.
@@ -79,7 +79,7 @@ pub fn put_endpoint(buf: &mut [u8], at: usize, address: &[u8], udp: u16, tcp: u1
     ensures bytes { λ _. ⌜ now (buf .exit) ≡ store (now (buf .entry)) at (encode (endpoint (now (address .entry)) udp tcp)) ⌝ }
 {
     let size = fields_size(address, udp, tcp);
-    let a = rlp::write_header(buf, at, 192, size);
+    let a = rlp_writer::write_header(buf, at, 192, size);
     put_fields(buf, a, address, udp, tcp)
 }
 
@@ -87,10 +87,10 @@ pub fn put_endpoint(buf: &mut [u8], at: usize, address: &[u8], udp: u16, tcp: u1
 pub fn last_size(expiration: u64, enr_seq: EnrSeq) -> usize
     ensures { λ r. ⌜ (r ≡ length (encodes (lastItems expiration «enr_seq»))) × (r ≤ 18) ⌝ }
 {
-    let size = rlp::uint_size(expiration);
+    let size = rlp_writer::uint_size(expiration);
     match enr_seq {
         EnrSeq::Absent => size,
-        EnrSeq::Present(n) => size + rlp::uint_size(n),
+        EnrSeq::Present(n) => size + rlp_writer::uint_size(n),
     }
 }
 
@@ -100,10 +100,10 @@ pub fn put_last(buf: &mut [u8], at: usize, expiration: u64, enr_seq: EnrSeq) -> 
     ensures next { λ r. ⌜ r ≡ at + length (encodes (lastItems expiration «enr_seq»)) ⌝ }
     ensures bytes { λ _. ⌜ now (buf .exit) ≡ store (now (buf .entry)) at (encodes (lastItems expiration «enr_seq»)) ⌝ }
 {
-    let a = rlp::write_uint(buf, at, expiration);
+    let a = rlp_writer::write_uint(buf, at, expiration);
     match enr_seq {
         EnrSeq::Absent => a,
-        EnrSeq::Present(n) => rlp::write_uint(buf, a, n),
+        EnrSeq::Present(n) => rlp_writer::write_uint(buf, a, n),
     }
 }
 
@@ -114,9 +114,9 @@ fn put_keyed(buf: &mut [u8], at: usize, address: &[u8], udp: u16, tcp: u16, key:
     ensures bytes { λ _. ⌜ now (buf .exit) ≡ store (now (buf .entry)) at (encode (node (now (address .entry)) udp tcp (now (key .entry)))) ⌝ }
 {
     let size = fields_size(address, udp, tcp) + 66;
-    let a = rlp::write_header(buf, at, 192, size);
+    let a = rlp_writer::write_header(buf, at, 192, size);
     let b = put_fields(buf, a, address, udp, tcp);
-    rlp::write_string(buf, b, key)
+    rlp_writer::write_string(buf, b, key)
 }
 
 // Writes a node record.

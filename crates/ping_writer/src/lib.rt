@@ -42,7 +42,7 @@ pub fn write_ping(
         let size = 1 + a + b + packet_parts::last_size(expiration, enr_seq);
         if body_size(size) <= buf.len() {
             let at = put_start(buf, 1, size);
-            let at = rlp::write_uint(buf, at, VERSION);
+            let at = rlp_writer::write_uint(buf, at, VERSION);
             let at = packet_parts::put_endpoint(buf, at, from, from_udp, from_tcp);
             let at = packet_parts::put_endpoint(buf, at, to, to_udp, TO_TCP);
             return Written::Done(packet_parts::put_last(buf, at, expiration, enr_seq));

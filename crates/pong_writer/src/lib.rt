@@ -37,7 +37,7 @@ pub fn write_pong(
         if body_size(size) <= buf.len() {
             let at = put_start(buf, 2, size);
             let at = packet_parts::put_endpoint(buf, at, to, to_udp, TO_TCP);
-            let at = rlp::write_string(buf, at, ping_hash);
+            let at = rlp_writer::write_string(buf, at, ping_hash);
             return Written::Done(packet_parts::put_last(buf, at, expiration, enr_seq));
         }
         return Written::Short;

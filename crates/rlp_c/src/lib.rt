@@ -93,7 +93,7 @@ pub extern "C" fn rlp_write_string(buf: &mut [u8], s: &[u8]) -> usize
     ensures size { λ r. ⌜ r ≡ length (encode (string (now (s .entry)))) ⌝ }
     ensures bytes { λ _. ⌜ now (buf .exit) ≡ store (now (buf .entry)) 0 (encode (string (now (s .entry)))) ⌝ }
 {
-    rlp::write_string(buf, 0, s)
+    rlp_writer::write_string(buf, 0, s)
 }
 
 // Writes an integer as an item, and returns its size.
@@ -103,7 +103,7 @@ pub extern "C" fn rlp_write_uint(buf: &mut [u8], n: u64) -> usize
     ensures size { λ r. ⌜ r ≡ length (encode (string (uintBytes n))) ⌝ }
     ensures bytes { λ _. ⌜ now (buf .exit) ≡ store (now (buf .entry)) 0 (encode (string (uintBytes n))) ⌝ }
 {
-    rlp::write_uint(buf, 0, n)
+    rlp_writer::write_uint(buf, 0, n)
 }
 
 // Writes the header of a list whose payload has `n` bytes, and returns its size.
@@ -113,5 +113,5 @@ pub extern "C" fn rlp_write_list_header(buf: &mut [u8], n: usize) -> usize
     ensures size { λ r. ⌜ r ≡ length (header 192 n) ⌝ }
     ensures bytes { λ _. ⌜ now (buf .exit) ≡ store (now (buf .entry)) 0 (header 192 n) ⌝ }
 {
-    rlp::write_header(buf, 0, 192, n)
+    rlp_writer::write_header(buf, 0, 192, n)
 }

@@ -1,4 +1,4 @@
--- `rlp::write_string` meets its contract. Assumes nothing.
+-- `rlp_writer::write_string` meets its contract. Assumes nothing.
 use Prim.Native.Nat.{_+_}
 use mathlib.Core.List.{_++_}
 use mathlib.Core.Logic.{⊎-elim}
@@ -6,11 +6,11 @@ use mathlib.Core.Path.{_≡_, refl, ap}
 use native.Mathlib.Omega.{arith}
 use borrow.Author.Needs.{needs}
 use lib.ListN.{length, getD, length-append}
 use Rattle.rlp.specs.Encoding.{header, encode, string}
 use Rattle.octets.proofs.Writing.{wrote-one, wrote-append}
 use Rattle.rlp.proofs.Writing.{encode-one, encode-framed}
-use Rattle.rlp.proofs.write_string.Statement.{statement}
-use Rattle.rlp.proofs.write_string.Tie as tie
+use Rattle.rlp_writer.proofs.write_string.Statement.{statement}
+use Rattle.rlp_writer.proofs.write_string.Tie as tie
 
 -- after the first test, the string has a header
 framed : (c : tie.Joined1) → encode (string (c .before .before .before .args .s .now)) ≡ header 0x80 (length (c .before .before .before .args .s .now)) ++ c .before .before .before .args .s .now

@@ -1,11 +1,11 @@
--- `rlp::uint_size` meets its contract. Assumes nothing.
+-- `rlp_writer::uint_size` meets its contract. Assumes nothing.
 use mathlib.Core.Path.{sym}
 use native.Mathlib.Omega.{arith}
 use borrow.Author.Needs.{needs}
 use Rattle.rlp.proofs.Numbers.{uint-bound}
 use Rattle.rlp.proofs.Writing.{uint-size-small, uint-size-large}
-use Rattle.rlp.proofs.uint_size.Statement.{statement}
-use Rattle.rlp.proofs.uint_size.Tie as tie
+use Rattle.rlp_writer.proofs.uint_size.Statement.{statement}
+use Rattle.rlp_writer.proofs.uint_size.Tie as tie
 
 uint-len-requires : tie.Need-uint-len-requires
 uint-len-requires c κs = search needs

@@ -1,12 +1,12 @@
--- `rlp::write_digits` meets its contract. Assumes nothing.
+-- `rlp_writer::write_digits` meets its contract. Assumes nothing.
 use Prim.Native.Nat.{ℕ}
 use mathlib.Core.Path.{ap, _∙_}
 use native.Mathlib.Omega.{arith}
 use borrow.Author.Needs.{needs}
 use Rattle.octets.specs.Octets.{store, bigEndian}
 use Rattle.rlp.proofs.Numbers.{length-uint}
-use Rattle.rlp.proofs.write_digits.Statement.{statement}
-use Rattle.rlp.proofs.write_digits.Tie as tie
+use Rattle.rlp_writer.proofs.write_digits.Statement.{statement}
+use Rattle.rlp_writer.proofs.write_digits.Tie as tie
 
 uint-len-requires : tie.Need-uint-len-requires
 uint-len-requires c κs = search needs

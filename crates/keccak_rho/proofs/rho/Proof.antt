@@ -1,9 +1,9 @@
--- `keccak_f::rho` meets its contract: lane i is what the i-th call of `rotl` ensures, and the table is the walk that `offsets` computes.
+-- `keccak_rho::rho` meets its contract: lane i is what the i-th call of `rotl` ensures, and the table is the walk that `offsets` computes.
 -- Assumes nothing.
 use mathlib.Core.List.{[], _∷_}
 use borrow.Author.Needs.{needs}
-use Rattle.keccak_f.proofs.rho.Statement.{statement}
-use Rattle.keccak_f.proofs.rho.Tie as tie
+use Rattle.keccak_rho.proofs.rho.Statement.{statement}
+use Rattle.keccak_rho.proofs.rho.Tie as tie
 
 returns : tie.Need-returns
 returns c =

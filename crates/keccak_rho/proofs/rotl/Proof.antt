@@ -1,12 +1,12 @@
--- `keccak_f::rotl` meets its contract: a lane that is not rotated is `rot` by 0. Assumes nothing.
+-- `keccak_rho::rotl` meets its contract: a lane that is not rotated is `rot` by 0. Assumes nothing.
 use mathlib.Core.Path.{_≡_, sym, ap, ap₂, _∙_}
 use Prim.Native.Nat.{ℕ, _*_, _/_, _%_, _^_, _<_}
 use native.Mathlib.Omega.{arith}
 use lib.Bits.{bitOr, or-zero-r}
 use borrow.Author.Needs.{needs}
 use Rattle.keccak_steps.specs.Lanes.{rot}
-use Rattle.keccak_f.proofs.rotl.Statement.{statement}
-use Rattle.keccak_f.proofs.rotl.Tie as tie
+use Rattle.keccak_rho.proofs.rotl.Statement.{statement}
+use Rattle.keccak_rho.proofs.rotl.Tie as tie
 
 not-rotated : (x : ℕ) → x < 2 ^ 64 → rot x 0 ≡ x
 not-rotated x h =

@@ -1,17 +1,17 @@
--- `rlp::write_header` meets its contract. Assumes nothing.
+-- `rlp_writer::write_header` meets its contract. Assumes nothing.
 use Prim.Native.Nat.{ℕ, _+_}
 use mathlib.Core.List.{_∷_}
 use mathlib.Core.Path.{_≡_, sym, ap, _∙_}
 use native.Mathlib.Omega.{arith}
 use borrow.Author.Needs.{needs}
 use lib.ListN.{length, length-set}
 use Rattle.rlp.specs.Numbers.{uintBytes}
 use Rattle.rlp.specs.Encoding.{header}
 use Rattle.rlp.proofs.Numbers.{uint-bound}
 use Rattle.octets.proofs.Writing.{wrote-one, wrote-cons}
 use Rattle.rlp.proofs.Writing.{header-short, header-long}
-use Rattle.rlp.proofs.write_header.Statement.{statement}
-use Rattle.rlp.proofs.write_header.Tie as tie
+use Rattle.rlp_writer.proofs.write_header.Statement.{statement}
+use Rattle.rlp_writer.proofs.write_header.Tie as tie
 
 cast-buf : tie.Need-cast-buf
 cast-buf c = search needs

@@ -1,4 +1,4 @@
--- `rlp::write_uint` meets its contract. Assumes nothing.
+-- `rlp_writer::write_uint` meets its contract. Assumes nothing.
 use Prim.Native.Nat.{ℕ, _+_, _≤_, _<_}
 use mathlib.Core.List.{_∷_}
 use mathlib.Core.Logic.{⊎-elim}
@@ -6,13 +6,13 @@ use mathlib.Core.Path.{_≡_, sym, ap, _∙_}
 use native.Mathlib.Omega.{arith}
 use borrow.Author.Needs.{needs}
 use lib.ListN.{length, length-set}
 use Rattle.rlp.specs.Numbers.{uintBytes}
 use Rattle.rlp.specs.Encoding.{encode, string}
 use Rattle.rlp.proofs.Numbers.{uint-bound}
 use Rattle.octets.proofs.Writing.{wrote-one, wrote-cons}
 use Rattle.rlp.proofs.Writing.{encode-uint-one, encode-uint}
-use Rattle.rlp.proofs.write_uint.Statement.{statement}
-use Rattle.rlp.proofs.write_uint.Tie as tie
+use Rattle.rlp_writer.proofs.write_uint.Statement.{statement}
+use Rattle.rlp_writer.proofs.write_uint.Tie as tie
 
 -- after the first test, the integer has a header
 framed : (c : tie.After-uint-len) → encode (string (uintBytes (c .before .before .before .args .n))) ≡ (0x80 + c .uint-len .result) ∷ uintBytes (c .before .before .before .args .n)
