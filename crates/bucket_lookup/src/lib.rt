@@ -84,7 +84,7 @@ impl Lookup {
         let e = self.entry;
         let ping = e.ping;
         let held = self.is_held();
-        entry_rules::both(held, entry_rules::is_overdue(ping, clock))
+        entry_rules::both(held, entry_times::is_overdue(ping, clock))
     }
 
     // 16
@@ -103,7 +103,7 @@ impl Lookup {
         let e = self.entry;
         let ping = e.ping;
         let held = self.is_held();
-        entry_rules::both(held, entry_rules::is_out(ping))
+        entry_rules::both(held, entry_times::is_out(ping))
     }
 
     // 18, with the number of replacements
@@ -137,7 +137,7 @@ impl Lookup {
             return true;
         }
         let verified = entry_rules::is_verified(e, address, udp, clock);
-        let open = entry_rules::both(!verified, !entry_rules::is_out(ping));
+        let open = entry_rules::both(!verified, !entry_times::is_out(ping));
         entry_rules::both(entry_rules::is_at(e, address, udp), open)
     }
 }

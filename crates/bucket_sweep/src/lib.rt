@@ -17,9 +17,9 @@ fn stays(e: Entry, waiting: bool, clock: MonotonicMillis) -> bool
 {
     let ping = e.ping;
     let proof = e.proof;
-    let alive = !entry_rules::is_overdue(ping, clock);
+    let alive = !entry_times::is_overdue(ping, clock);
     if waiting {
-        return entry_rules::both(alive, !entry_rules::proof_expired(proof, clock));
+        return entry_rules::both(alive, !entry_times::proof_expired(proof, clock));
     }
     alive
 }
@@ -57,7 +57,7 @@ fn promote_one(b: Bucket, e: Entry) -> Bucket
     let entries = b.entries;
     let replacements = b.replacements;
     let proof = e.proof;
-    let proved = entry_rules::is_proved(proof);
+    let proved = entry_times::is_proved(proof);
     let moves = entry_rules::both(proved, entries.len < Bucket::ENTRIES);
     if moves {
         let entries = entries.push(e);

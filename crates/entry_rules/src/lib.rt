@@ -1,83 +1,21 @@
 // What the rules of a bucket ask of one entry, and what they make of it.
 ghost use mathlib.Core.Path.{_≡_};
 ghost use mathlib.Core.Bool.{_&&_};
-ghost use Prim.Native.Nat.{_-_, _≤_};
+ghost use Prim.Native.Nat.{_≤_};
 ghost use lib.ListN.{length, take};
 ghost use Rattle.octets.specs.Octets.{sameBytes};
-ghost use Rattle.bucket_model.specs.Rules.{isProved, proofHolds, proofExpired, isOut, isOverdue, addressOf, isAt, isVerified, isAwaited, pinged, ponged, heard, endpointOf, newEntry};
+ghost use Rattle.bucket_model.specs.Rules.{addressOf, isAt, isVerified, isAwaited, pinged, ponged, heard, endpointOf, newEntry};
 use entry::Endpoint;
 use entry::EndpointProof;
 use entry::Entry;
 use entry::MonotonicMillis;
 use entry::PingState;
 
-// A pong is in time up to and including this many milliseconds after its ping.
-pub const PING_TIMEOUT: u64 = 500;
-
-// A proof holds up to and including this many milliseconds.
-pub const PROOF_LIFETIME: u64 = 43_200_000;
-
 // Both hold: a compound test with one way out.
 pub fn both(a: bool, b: bool) -> bool
     ensures { λ r. ⌜ r ≡ (a && b) ⌝ }
 {
     if a { b } else { false }
-}
-
-// The milliseconds from `then` to `clock`, 0 where `then` is later.
-fn since(then: MonotonicMillis, clock: MonotonicMillis) -> u64
-    ensures { λ r. ⌜ r ≡ clock .0 - then .0 ⌝ }
-{
-    if clock.0 < then.0 {
-        return 0;
-    }
-    clock.0 - then.0
-}
-
-pub fn is_proved(proof: EndpointProof) -> bool
-    ensures { λ r. ⌜ r ≡ isProved proof ⌝ }
-{
-    match proof {
-        EndpointProof::Unproved => false,
-        EndpointProof::At(_) => true,
-    }
-}
-
-fn proof_holds(proof: EndpointProof, clock: MonotonicMillis) -> bool
-    ensures { λ r. ⌜ r ≡ proofHolds (clock .0) proof ⌝ }
-{
-    match proof {
-        EndpointProof::Unproved => false,
-        EndpointProof::At(t) => since(t, clock) <= PROOF_LIFETIME,
-    }
-}
-
-pub fn proof_expired(proof: EndpointProof, clock: MonotonicMillis) -> bool
-    ensures { λ r. ⌜ r ≡ proofExpired (clock .0) proof ⌝ }
-{
-    match proof {
-        EndpointProof::Unproved => false,
-        EndpointProof::At(t) => PROOF_LIFETIME < since(t, clock),
-    }
-}
-
-pub fn is_out(ping: PingState) -> bool
-    ensures { λ r. ⌜ r ≡ isOut ping ⌝ }
-{
-    match ping {
-        PingState::Quiet => false,
-        PingState::Out(_) => true,
-    }
-}
-
-// A ping went out more than 500 ms ago.
-pub fn is_overdue(ping: PingState, clock: MonotonicMillis) -> bool
-    ensures { λ r. ⌜ r ≡ isOverdue (clock .0) ping ⌝ }
-{
-    match ping {
-        PingState::Quiet => false,
-        PingState::Out(t) => PING_TIMEOUT < since(t, clock),
-    }
 }
 
 fn same_address(e: Endpoint, address: &[u8]) -> bool
@@ -104,7 +42,10 @@ pub fn is_verified(e: Entry, address: &[u8], udp: u16, clock: MonotonicMillis) -
     ensures { λ r. ⌜ r ≡ isVerified (clock .0) (now (address .entry)) udp e ⌝ }
 {
     let proof = e.proof;
-    both(is_at(e, address, udp), proof_holds(proof, clock))
+    both(
+        is_at(e, address, udp),
+        entry_times::proof_holds(proof, clock),
+    )
 }
 
 // Document 01's awaited, of a pong with this ping hash.
@@ -114,7 +55,7 @@ pub fn is_awaited(e: Entry, hash: &[u8], address: &[u8], udp: u16) -> bool
     let ping = e.ping;
     let sent = e.hash;
     let agrees = both(octets::same_bytes(hash, &sent), is_at(e, address, udp));
-    both(is_out(ping), agrees)
+    both(entry_times::is_out(ping), agrees)
 }
 
 // A ping with this hash went out now.

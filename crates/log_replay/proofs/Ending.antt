@@ -12,7 +12,7 @@ use Rattle.lists.specs.Lists.{empty}
 use Rattle.table_model.specs.Layout.{countOf}
 use Rattle.table_model.specs.Sound.{tableSound}
 use Rattle.printout.specs.Printout.{printout}
-use Rattle.printout.specs.Held.{room}
+use Rattle.printout_head.specs.Held.{room}
 use Rattle.printout.proofs.Sizes.{printout-fits}
 use Rattle.own_line.specs.declared.Replay.{Replay}
 use Rattle.own_line.specs.Answered.{sizeOf, stateOf}

@@ -6,7 +6,7 @@ ghost use Rattle.octets.specs.Octets.{store};
 ghost use Rattle.lines.specs.Lines.{whole};
 ghost use Rattle.answer_rows.specs.AnswerRows.{answerRoom, numberRow};
 ghost use Rattle.own_line.specs.Answered.{stateOf};
-ghost use Rattle.printout.specs.Held as held;
+ghost use Rattle.printout_head.specs.Held as held;
 ghost use Rattle.log_replay.specs.Replay.{Reached, ending};
 ghost use Rattle.log_replay.specs.Steps.{AnsweredLine};
 use answer_rows::put_number;

@@ -14,7 +14,8 @@ use Rattle.bucket_model.specs.Rules.{millis}
 use Rattle.table_model.specs.Layout.{encodeTable}
 use Rattle.table_model.proofs.Sound.{SoundTable, count-back, clock-back, buckets-back}
 use Rattle.entry_row.specs.EntryRow.{entryRow}
-use Rattle.printout.specs.Printout.{tableWord, entryRows, bucketRows, bucketsRows, entryTotal, replacementTotal, tableRow, printout}
+use Rattle.printout_head.specs.TableRow.{tableWord, entryTotal, replacementTotal, tableRow}
+use Rattle.printout.specs.Printout.{entryRows, bucketRows, bucketsRows, printout}
 
 abbrev pub printed : ℕ → List Contents → Bytes
 printed clock buckets =

@@ -5,21 +5,19 @@ use Prim.Native.Nat.{ℕ, suc, _+_, _-_, _*_, _≤_, _<_}
 use native.Mathlib.Numerals.{add-one}
 use native.Mathlib.Omega.{arith}
 use lib.ListN.{length, drop, drop-of-length-le}
-use lib.Seq.{drop-cons}
 use Rattle.octets.specs.Octets.{Bytes, part}
 use Rattle.lists.specs.Lists.{All}
 use Rattle.entry.specs.declared.Entry.{Entry}
 use Rattle.entry.specs.Layout.{decodeEntry}
-use Rattle.bucket_model.specs.Contents.{Contents, noContents, entriesAt}
-use Rattle.table_model.specs.Layout.{clockOf, countOf, bucketAt, bucketsOf}
+use Rattle.bucket_model.specs.Contents.{Contents, entriesAt}
+use Rattle.table_model.specs.Layout.{countOf, bucketAt, bucketsOf}
 use Rattle.table_model.proofs.Entries.{behind, behind-none, behind-all, behind-turn}
-use Rattle.table_model.proofs.Table.{count-read, bucket-read}
+use Rattle.table_model.proofs.Table.{count-read}
 use Rattle.octets.proofs.Writing.{Wrote}
 use Rattle.octets.proofs.Progress.{Progress, concat, start, finish}
-use Rattle.text.specs.Decimals.{decimal}
-use Rattle.rows.proofs.Rows.{pieces, pieces-are}
 use Rattle.entry_row.specs.EntryRow.{entryRow}
-use Rattle.printout.specs.Printout.{tableWord, entryTotal, replacementTotal, tableRow, entryRows, bucketRows, bucketsRows}
+use Rattle.printout.specs.Printout.{entryRows, bucketRows, bucketsRows}
+use Rattle.printout_head.proofs.Rows.{next-bucket}
 
 -- ---- a text that is written part by part
 
@@ -51,15 +49,6 @@ module _ (d : Bytes) (at : ℕ) (x : Bytes) where
 
   pub finish-one : {d′ : Bytes} {n : ℕ} → Progress d at (x ∷ []) [] d′ n → Wrote d at x d′ n
   finish-one p = finish p (append-nil x)
-
--- ---- the row of the table
-
-pub head-parts : (s : Bytes) {count clock entries replacements : ℕ}
-    → count ≡ countOf s → clock ≡ clockOf s → entries ≡ entryTotal (bucketsOf s) → replacements ≡ replacementTotal (bucketsOf s)
-    → concat (pieces tableWord (decimal count ∷ decimal clock ∷ decimal entries ∷ decimal replacements ∷ [])) ≡ tableRow s
-unfolding tableRow
-head-parts s {count} {clock} {entries} {replacements} e₁ e₂ e₃ e₄ =
-    pieces-are tableWord (decimal count ∷ decimal clock ∷ decimal entries ∷ decimal replacements ∷ []) ∙ rw (e₁, e₂, e₃, e₄)
 
 -- ---- the rows of entries in bytes
 
@@ -124,14 +113,11 @@ module _ (s : Bytes) where
   no-buckets slot h =
       ap (λ (bs : List Contents). bucketsRows (firstNumber + slot) bs) (drop-of-length-le (bucketsOf s) {i = slot} (omega (arith, count-read s)))
 
-  pub next-bucket : (slot : ℕ) → slot < countOf s → drop slot (bucketsOf s) ≡ bucketAt s slot ∷ drop (slot + 1) (bucketsOf s)
-  next-bucket slot h = rw (add-one, ← bucket-read s slot h) (drop-cons (bucketsOf s) slot noContents (omega (arith, count-read s)))
-
   next-rows : (slot : ℕ) → slot < countOf s → rowsFrom slot ≡ bucketRows (firstNumber + slot) (bucketAt s slot) ++ rowsFrom (slot + 1)
   unfolding bucketsRows
   next-rows slot h =
       let e : suc (firstNumber + slot) ≡ firstNumber + (slot + 1) = omega arith in
-      ap (λ (bs : List Contents). bucketsRows (firstNumber + slot) bs) (next-bucket slot h)
+      ap (λ (bs : List Contents). bucketsRows (firstNumber + slot) bs) (next-bucket s slot h)
       ∙ ap (λ (k : ℕ). bucketRows (firstNumber + slot) (bucketAt s slot) ++ bucketsRows k (drop (slot + 1) (bucketsOf s))) e
 
   -- the next bucket's rows are the next to be written

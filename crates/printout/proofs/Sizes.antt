@@ -24,8 +24,9 @@ use Rattle.table_model.specs.Layout.{ownOf, clockOf, countOf, numberOf, buckets
 use Rattle.table_model.specs.Sound.{tableSound}
 use Rattle.table_model.proofs.Sound.{sound-is-table}
 use Rattle.table_model.proofs.Table.{count-read}
-use Rattle.printout.specs.Printout.{tableWord, entryRows, bucketRows, bucketsRows, entryTotal, replacementTotal, tableRow, printout}
-use Rattle.printout.specs.Held.{room}
+use Rattle.printout_head.specs.TableRow.{tableWord, entryTotal, replacementTotal, tableRow}
+use Rattle.printout_head.specs.Held.{room}
+use Rattle.printout.specs.Printout.{entryRows, bucketRows, bucketsRows, printout}
 
 entries-bound : (word : Bytes) (number place : ℕ) (es : List Entry) → length word ≤ 4 → number < 1000 → place + length es ≤ 100 → All IsEntry es
     → length (entryRows word number place es) ≤ length es * 137

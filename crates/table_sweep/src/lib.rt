@@ -22,10 +22,10 @@ fn entry_stays(bytes: &[u8], at: usize, waiting: bool, time: MonotonicMillis) ->
     ensures { λ r. ⌜ r ≡ stays waiting (time .0) (decodeEntry (part (now (bytes .entry)) at 143)) ⌝ }
 {
     let ping = entry::ping_of(entry::load_stamp(bytes, at + 102));
-    let alive = !entry_rules::is_overdue(ping, time);
+    let alive = !entry_times::is_overdue(ping, time);
     if waiting {
         let proof = entry::proof_of(entry::load_stamp(bytes, at + 93));
-        return entry_rules::both(alive, !entry_rules::proof_expired(proof, time));
+        return entry_rules::both(alive, !entry_times::proof_expired(proof, time));
     }
     alive
 }

@@ -11,9 +11,9 @@ use Rattle.bucket_model.proofs.ByteForm.{length-entriesAt}
 use Rattle.table_model.specs.Layout.{countOf, offsetOf, bucketAt, bucketsOf}
 use Rattle.table_model.specs.Sound.{tableSound}
 use Rattle.table_model.proofs.Table.{count-read}
-use Rattle.printout.specs.Printout.{entryTotal, replacementTotal}
-use Rattle.printout.proofs.Rows.{next-bucket}
-use Rattle.printout.proofs.Slots.{bucket-is}
+use Rattle.printout_head.specs.TableRow.{entryTotal, replacementTotal}
+use Rattle.printout_head.proofs.Rows.{next-bucket}
+use Rattle.printout_head.proofs.Slots.{bucket-is}
 
 module _ (s : Bytes) where
   abbrev pub entriesFrom : ℕ → ℕ

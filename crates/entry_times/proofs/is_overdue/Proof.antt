@@ -1,10 +1,10 @@
--- `entry_rules::is_overdue` meets its contract. Assumes nothing.
+-- `entry_times::is_overdue` meets its contract. Assumes nothing.
 use mathlib.Core.Path.{sym, ap, _∙_}
 use lib.Dec.{ltb}
 use Rattle.bucket_model.specs.Rules.{isOverdue}
 use borrow.Author.Needs.{needs}
-use Rattle.entry_rules.proofs.is_overdue.Statement.{statement}
-use Rattle.entry_rules.proofs.is_overdue.Tie as tie
+use Rattle.entry_times.proofs.is_overdue.Statement.{statement}
+use Rattle.entry_times.proofs.is_overdue.Tie as tie
 
 enum-told : tie.Need-enum-told
 enum-told c = search needs

@@ -1,10 +1,10 @@
--- `entry_rules::proof_expired` meets its contract. Assumes nothing.
+-- `entry_times::proof_expired` meets its contract. Assumes nothing.
 use mathlib.Core.Path.{sym, ap, _∙_}
 use lib.Dec.{ltb}
 use Rattle.bucket_model.specs.Rules.{proofExpired}
 use borrow.Author.Needs.{needs}
-use Rattle.entry_rules.proofs.proof_expired.Statement.{statement}
-use Rattle.entry_rules.proofs.proof_expired.Tie as tie
+use Rattle.entry_times.proofs.proof_expired.Statement.{statement}
+use Rattle.entry_times.proofs.proof_expired.Tie as tie
 
 enum-told : tie.Need-enum-told
 enum-told c = search needs

@@ -18,7 +18,7 @@ use Rattle.table_model.specs.Sound.{bucketSound, bucketsSound, tableSound}
 use Rattle.table_model.proofs.Sound.{SoundBucket, all-below, counts-at, table-header, sound-is-table}
 use Rattle.table_model.proofs.Table.{count-read, bucket-read}
 use Rattle.entry_row.specs.EntryRow.{HasAddress}
-use Rattle.printout.specs.Held.{BucketIn}
+use Rattle.printout_head.specs.Held.{BucketIn}
 
 -- an address of a sound entry has at most 16 bytes
 address-in : (home : Bytes → Bool) (clock : ℕ) (e : Entry) → EntrySound home clock e → HasAddress e

@@ -1,4 +1,4 @@
--- `printout::put_head` meets its contract. Assumes nothing.
+-- `printout_head::put_head` meets its contract. Assumes nothing.
 use mathlib.Core.Path.{_≡_, ap}
 use mathlib.Core.List.{List, [], _∷_}
 use native.Mathlib.Omega.{arith}
@@ -7,13 +7,13 @@ use Rattle.octets.specs.Octets.{Bytes}
 use Rattle.text.specs.Decimals.{decimal}
 use Rattle.octets.proofs.Progress.{Progress, concat, start, room, step, finish}
 use Rattle.rows.proofs.Rows.{pieces}
-use Rattle.printout.specs.declared.Totals.{Totals}
-use Rattle.printout.specs.Printout.{tableWord, tableRow}
-use Rattle.printout.proofs.Rows.{head-parts}
-use Rattle.printout.proofs.Slots.{header-in}
+use Rattle.printout_head.specs.declared.Totals.{Totals}
+use Rattle.printout_head.specs.TableRow.{tableWord, tableRow}
+use Rattle.printout_head.proofs.Rows.{head-parts}
+use Rattle.printout_head.proofs.Slots.{header-in}
 use borrow.Author.Needs.{needs}
-use Rattle.printout.proofs.put_head.Statement.{statement}
-use Rattle.printout.proofs.put_head.Tie as tie
+use Rattle.printout_head.proofs.put_head.Statement.{statement}
+use Rattle.printout_head.proofs.put_head.Tie as tie
 
 bucket-count-requires : tie.Need-bucket-count-requires
 bucket-count-requires c κs = header-in (c .before .before .args .table .now) (c .before .before .pre .0)

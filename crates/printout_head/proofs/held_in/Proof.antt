@@ -1,14 +1,14 @@
--- `printout::held_in` meets its contract: what is counted so far, and what the buckets from `slot` on hold. Assumes nothing.
+-- `printout_head::held_in` meets its contract: what is counted so far, and what the buckets from `slot` on hold. Assumes nothing.
 use Prim.Native.Nat.{_+_, _-_, _*_, _≤_, _<_}
 use mathlib.Core.Path.{_≡_}
 use native.Mathlib.Omega.{arith}
 use lib.ListN.{length, getD}
 use Rattle.table_model.specs.Layout.{countOf, offsetOf, bucketsOf}
-use Rattle.printout.specs.Printout.{entryTotal, replacementTotal}
-use Rattle.printout.proofs.Slots.{header-in, at-most, slot-in, counts}
-use Rattle.printout.proofs.Counts.{entriesFrom, replacementsFrom, no-entries, no-replacements, next-entries, next-replacements}
-use Rattle.printout.proofs.held_in.Statement.{statement}
-use Rattle.printout.proofs.held_in.Tie as tie
+use Rattle.printout_head.specs.TableRow.{entryTotal, replacementTotal}
+use Rattle.printout_head.proofs.Slots.{header-in, at-most, slot-in, counts}
+use Rattle.printout_head.proofs.Counts.{entriesFrom, replacementsFrom, no-entries, no-replacements, next-entries, next-replacements}
+use Rattle.printout_head.proofs.held_in.Statement.{statement}
+use Rattle.printout_head.proofs.held_in.Tie as tie
 
 abbrev Inv-loop : tie.InvT-loop
 Inv-loop table count entries₀ replacements₀ slot₀ entries replacements slot =

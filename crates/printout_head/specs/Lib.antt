@@ -1,0 +1,2 @@
+pub mod TableRow
+pub mod Held
