@@ -9,7 +9,7 @@ use Rattle.datagram_answer.specs.declared.Received.{Received}
 use Rattle.written.specs.declared.Written.{Written}
 use Rattle.packet_items.specs.declared.EnrSeq.{EnrSeq}
 use Rattle.packet_items.specs.declared.EnrSeq.the-variants.{Absent, Present}
-use Rattle.closest_call.specs.declared.Listed.{Listed}
+use Rattle.closest_nodes.specs.declared.Listed.{Listed}
 use Rattle.written.specs.Written.{writtenNumber, writtenSize}
 
 -- the answer number in the low byte, and the value above it

@@ -4,7 +4,7 @@ ghost use Prim.Native.Nat.{_≤_, _<_, _^_};
 ghost use Rattle.written.specs.Written.{writtenSize};
 ghost use Rattle.answer_code.specs.Codes as codes;
 ghost use Rattle.answer_code.specs.Codes.{numberIn, dueValue, standingValue, outcomeCode, listedCode, writtenCode, seqOf};
-use closest_call::Listed;
+use closest_nodes::Listed;
 use datagram_answer::Outcome;
 use datagram_answer::Standing;
 use packet_items::EnrSeq;

@@ -16,7 +16,7 @@ ghost use Rattle.packet_parts.specs.Writers.{canPing, pingBody, canPong, pongBo
 ghost use Rattle.packet_join.specs.Join as joining;
 ghost use Rattle.table.specs.Init.{initAnswer, initTable};
 ghost use Rattle.counters.specs.Counters.{raised, cleared};
-ghost use Rattle.closest_call.specs.Closest.{listed, listAfter};
+ghost use Rattle.closest_nodes.specs.Closest.{listed, listAfter};
 ghost use Rattle.answer_code.specs.Codes.{numberIn, receivedCode, listedCode, writtenCode, seqOf};
 ghost use Rattle.flat_packet.specs.Fields.{readNumber, fieldsAfter, nodeNumbers};
 ghost use Rattle.bucket_head.specs.Head.{headNumber, headOn, unlessRefused};

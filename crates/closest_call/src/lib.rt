@@ -1,36 +1,12 @@
 // The closest call of the public library: the nodes nearest to a target, written into a list that the caller lends.
 ghost use mathlib.Core.Path.{_≡_};
-ghost use Prim.Native.Nat.{_<_, _≤_};
+ghost use Prim.Native.Nat.{_≤_};
 ghost use lib.ListN.{length};
-ghost use Rattle.closest_call.specs.Closest.{listed, listAfter, found, numberAndCount, chosenNode, withChosen};
+ghost use Rattle.closest_nodes.specs.Closest.{listed, listAfter, withChosen};
+ghost use Rattle.closest_call.specs.ByValue.{found};
 use closest_choice::Choice;
+use closest_nodes::Listed;
 use entry::Node;
-
-// The answer number of a closest call, and how many nodes the list received: none where the call is refused.
-pub struct Listed {
-    pub number: u8,
-    pub count: usize,
-}
-
-// The node of the i-th entry that was chosen.
-fn chosen_node(table: &[u8], choice: Choice, i: usize) -> Node
-    requires { ⌜ i < 16 ⌝ }
-    ensures { λ r. ⌜ r ≡ chosenNode (now (table .entry)) choice i ⌝ }
-{
-    let nearest = choice.nearest;
-    let near = nearest.list[i];
-    closest_choice::node_in(table, near.slot, near.index)
-}
-
-// What a closest call answers.
-fn number_and_count(choice: Choice) -> Listed
-    ensures { λ r. ⌜ r ≡ numberAndCount choice ⌝ }
-{
-    Listed {
-        number: choice.number,
-        count: choice.nearest.count,
-    }
-}
 
 // Writes the nodes that were chosen to the front of the list, and leaves the rest of it.
 fn store_nodes(list: &mut [Node], table: &[u8], choice: Choice)
@@ -39,7 +15,7 @@ fn store_nodes(list: &mut [Node], table: &[u8], choice: Choice)
 {
     let mut i = 0;
     while i < choice.nearest.count {
-        list[i] = chosen_node(table, choice, i);
+        list[i] = closest_nodes::chosen_node(table, choice, i);
         i += 1;
     }
 }
@@ -52,7 +28,7 @@ pub fn closest(list: &mut [Node], table: &[u8], target: &[u8]) -> Listed
 {
     let choice = closest_choice::closest_on(table, target, list.len());
     store_nodes(list, table, choice);
-    number_and_count(choice)
+    closest_nodes::number_and_count(choice)
 }
 
 // What a closest call answers, and the list after it.

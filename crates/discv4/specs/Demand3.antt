@@ -20,7 +20,7 @@ use Rattle.datagram_call.specs.Received.{received}
 use Rattle.counters.specs.declared.Counters.{Counters}
 use Rattle.counters.specs.Counters.{raised, cleared, countOf}
 use Rattle.counters.specs.History.{timesOf, capped}
-use Rattle.closest_call.specs.Closest.{listed}
+use Rattle.closest_nodes.specs.Closest.{listed}
 
 -- the answer number of each call on a table's bytes
 abbrev pub answerNumber : Bytes → Call → ℕ

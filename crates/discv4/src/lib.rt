@@ -4,8 +4,9 @@
 // `init` makes lent bytes a fresh table. `datagram`, `ping_sent` and `sweep` count their answers in lent counters, `closest` fills a lent
 // list. Callers inside the repository have forms that take counters or list by value: crates counted_datagram,
 // counted_ping_sent, counted_sweep and closest_call.
-pub use closest_call::Listed;
+
 pub use closest_call::closest;
+pub use closest_nodes::Listed;
 pub use counted_datagram::datagram;
 pub use counted_ping_sent::ping_sent;
 pub use counted_sweep::sweep;

@@ -40,11 +40,11 @@ use Rattle.octets.specs.Octets.{Bytes}
 use Rattle.entry.specs.declared.Node.{Node}
 use Rattle.entry.proofs.Node as TN
 use Rattle.closest_choice.specs.Closest.{chosen}
-use Rattle.closest_call.specs.Closest.{listed, listAfter}
-use Rattle.closest_call.specs.declared.Listed.{Listed}
-use Rattle.closest_call.proofs.Chosen.{fits, answers}
-use Rattle.closest_call.proofs.Listed as TL
-use Rattle.closest_call.proofs.Listed.Laws as TL′
+use Rattle.closest_nodes.specs.Closest.{listed, listAfter}
+use Rattle.closest_nodes.specs.declared.Listed.{Listed}
+use Rattle.closest_nodes.proofs.Chosen.{fits, answers}
+use Rattle.closest_nodes.proofs.Listed as TL
+use Rattle.closest_nodes.proofs.Listed.Laws as TL′
 use Rattle.closest_call.proofs.closest as callee
 use Rattle.closest_call.proofs.closest.Symbol as callee-def
 use Rattle.closest_call.proofs.closest.Symbol.{name as #callee}

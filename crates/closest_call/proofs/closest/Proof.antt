@@ -47,19 +47,19 @@ use Rattle.closest_choice.proofs.closest_on as choose
 use Rattle.closest_choice.proofs.closest_on.Symbol as choose-def
 use Rattle.closest_choice.proofs.closest_on.Symbol.{name as #choose}
 use Rattle.closest_choice.proofs.closest_on.Met as choose-thm
-use Rattle.closest_call.specs.Closest.{numberAndCount, withChosen}
-use Rattle.closest_call.specs.declared.Listed.{Listed}
-use Rattle.closest_call.proofs.Chosen.{fits, answers, writes}
-use Rattle.closest_call.proofs.Listed as TL
-use Rattle.closest_call.proofs.Listed.Laws as TL′
+use Rattle.closest_nodes.specs.Closest.{numberAndCount, withChosen}
+use Rattle.closest_nodes.specs.declared.Listed.{Listed}
+use Rattle.closest_nodes.proofs.Chosen.{fits, answers, writes}
+use Rattle.closest_nodes.proofs.Listed as TL
+use Rattle.closest_nodes.proofs.Listed.Laws as TL′
 use Rattle.closest_call.proofs.store_nodes as store-nodes
 use Rattle.closest_call.proofs.store_nodes.Symbol as store-nodes-def
 use Rattle.closest_call.proofs.store_nodes.Symbol.{name as #store-nodes}
 use Rattle.closest_call.proofs.store_nodes.Met as store-nodes-thm
-use Rattle.closest_call.proofs.number_and_count as tell
-use Rattle.closest_call.proofs.number_and_count.Symbol as tell-def
-use Rattle.closest_call.proofs.number_and_count.Symbol.{name as #tell}
-use Rattle.closest_call.proofs.number_and_count.Met as tell-thm
+use Rattle.closest_nodes.proofs.number_and_count as tell
+use Rattle.closest_nodes.proofs.number_and_count.Symbol as tell-def
+use Rattle.closest_nodes.proofs.number_and_count.Symbol.{name as #tell}
+use Rattle.closest_nodes.proofs.number_and_count.Met as tell-thm
 use Rattle.closest_call.proofs.closest.Key.{name as #self}
 use Rattle.closest_call.proofs.closest as self
 use Rattle.closest_call.proofs.closest.Statement as stated
@@ -177,4 +177,4 @@ closest-spec 𝓤 H 𝓜 𝓖 𝓡 =
     (meets 𝓤 H (𝓖 .A) (givenOf 𝓤 H 𝓜 𝓖) (𝓜 .mem) (𝓡 .run) (tablesOf 𝓤 H 𝓜 (tables 𝓤 H 𝓜 𝓡 code.env))
     (cited 𝓤 H (tripleOf 𝓤 H (𝓖 .A) choose.signature (choose.spec 𝓤 H (𝓖 .A) (𝓜 .mem) (𝓡 .run))) 𝓜 𝓡 code.env #choose choose-def.routine code.calls-closest-choice·closest-on (choose-thm.met 𝓤 H 𝓜 𝓖 𝓡))
     (cited 𝓤 H (tripleOf 𝓤 H (𝓖 .A) store-nodes.signature (store-nodes.spec 𝓤 H (𝓖 .A) (𝓜 .mem) (𝓡 .run))) 𝓜 𝓡 code.env #store-nodes store-nodes-def.routine code.calls-closest-call·store-nodes (store-nodes-thm.met 𝓤 H 𝓜 𝓖 𝓡))
-    (cited 𝓤 H (tripleOf 𝓤 H (𝓖 .A) tell.signature (tell.spec 𝓤 H (𝓖 .A) (𝓜 .mem) (𝓡 .run))) 𝓜 𝓡 code.env #tell tell-def.routine code.calls-closest-call·number-and-count (tell-thm.met 𝓤 H 𝓜 𝓖 𝓡)))
+    (cited 𝓤 H (tripleOf 𝓤 H (𝓖 .A) tell.signature (tell.spec 𝓤 H (𝓖 .A) (𝓜 .mem) (𝓡 .run))) 𝓜 𝓡 code.env #tell tell-def.routine code.calls-closest-nodes·number-and-count (tell-thm.met 𝓤 H 𝓜 𝓖 𝓡)))

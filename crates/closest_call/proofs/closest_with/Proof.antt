@@ -47,11 +47,12 @@ use Rattle.walk.proofs.Lent.{lent-array, back-array}
 use Rattle.entry.specs.declared.Node.{Node}
 use Rattle.entry.proofs.Node as TN
 use Rattle.entry.proofs.Node.Laws as TN′
-use Rattle.closest_call.specs.Closest.{listed, listAfter, found}
-use Rattle.closest_call.specs.declared.Listed.{Listed}
+use Rattle.closest_nodes.specs.Closest.{listed, listAfter}
+use Rattle.closest_call.specs.ByValue.{found}
+use Rattle.closest_nodes.specs.declared.Listed.{Listed}
 use Rattle.closest_call.specs.declared.Found.{Found}
-use Rattle.closest_call.proofs.Listed as TL
-use Rattle.closest_call.proofs.Listed.Laws as TL′
+use Rattle.closest_nodes.proofs.Listed as TL
+use Rattle.closest_nodes.proofs.Listed.Laws as TL′
 use Rattle.closest_call.proofs.Found as TF
 use Rattle.closest_call.proofs.Found.Laws as TF′
 use Rattle.closest_call.proofs.closest as callee

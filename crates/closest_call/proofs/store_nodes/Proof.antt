@@ -48,7 +48,7 @@ use denote.Triple.Walked.{says, needs, Stays, gave-slice, stay-dropped, walkOf, 
 use denote.Exit.{yes}
 use Rattle.walk.proofs.Call.{Callee, the-contract, Tokens, calls-known}
 use borrow.Author.Tests.{lt-ltb, le-ltb, ltb-true, ltb-false}
-use Rattle.closest_call.specs.Closest.{nodeAt, nowhere, chosenNode, withChosen}
+use Rattle.closest_nodes.specs.Closest.{nodeAt, nowhere, chosenNode, withChosen}
 use Rattle.entry.specs.declared.Node.{Node}
 use Rattle.closest_choice.specs.declared.Choice.{Choice}
 use Rattle.closest_call.proofs.Written.{upto, upto-length, upto-next}
@@ -57,10 +57,10 @@ use Rattle.entry.proofs.Node.Laws as TN′
 use Rattle.nearest.proofs.Near as TNear
 use Rattle.closest_choice.proofs.Choice as TC
 use Rattle.closest_choice.proofs.Choice.Laws as TC′
-use Rattle.closest_call.proofs.chosen_node as chosen-node
-use Rattle.closest_call.proofs.chosen_node.Symbol as chosen-node-def
-use Rattle.closest_call.proofs.chosen_node.Symbol.{name as #chosen-node}
-use Rattle.closest_call.proofs.chosen_node.Met as chosen-node-thm
+use Rattle.closest_nodes.proofs.chosen_node as chosen-node
+use Rattle.closest_nodes.proofs.chosen_node.Symbol as chosen-node-def
+use Rattle.closest_nodes.proofs.chosen_node.Symbol.{name as #chosen-node}
+use Rattle.closest_nodes.proofs.chosen_node.Met as chosen-node-thm
 use Rattle.closest_call.proofs.store_nodes.Key.{name as #self}
 use Rattle.closest_call.proofs.store_nodes as self
 use Rattle.closest_call.proofs.store_nodes.Statement as stated
@@ -266,4 +266,4 @@ store-nodes-spec 𝓤 H 𝓜 𝓖 𝓡 =
     entered 𝓤 H (tripleOf 𝓤 H (𝓖 .A) self.signature (self.spec 𝓤 H (𝓖 .A) (𝓜 .mem) (𝓡 .run)))
     (tables 𝓤 H 𝓜 𝓡 code.env .C) (tables 𝓤 H 𝓜 𝓡 code.env .Λ) #self code.function (code.unfolded 𝓤 H 𝓜 𝓡)
     (meets 𝓤 H (𝓖 .A) (givenOf 𝓤 H 𝓜 𝓖) (𝓜 .mem) (𝓡 .run) (tablesOf 𝓤 H 𝓜 (tables 𝓤 H 𝓜 𝓡 code.env))
-    (cited 𝓤 H (tripleOf 𝓤 H (𝓖 .A) chosen-node.signature (chosen-node.spec 𝓤 H (𝓖 .A) (𝓜 .mem) (𝓡 .run))) 𝓜 𝓡 code.env #chosen-node chosen-node-def.routine code.calls-closest-call·chosen-node (chosen-node-thm.met 𝓤 H 𝓜 𝓖 𝓡)))
+    (cited 𝓤 H (tripleOf 𝓤 H (𝓖 .A) chosen-node.signature (chosen-node.spec 𝓤 H (𝓖 .A) (𝓜 .mem) (𝓡 .run))) 𝓜 𝓡 code.env #chosen-node chosen-node-def.routine code.calls-closest-nodes·chosen-node (chosen-node-thm.met 𝓤 H 𝓜 𝓖 𝓡)))

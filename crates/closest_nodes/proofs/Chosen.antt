@@ -27,8 +27,8 @@ use Rattle.closest_choice.specs.declared.Choice.{Choice}
 use Rattle.entry.specs.Nodes.{nodeOf}
 use Rattle.closest_choice.specs.Closest.{chosen}
 use Rattle.closest_choice.proofs.Nodes.{closest-nodes}
-use Rattle.closest_call.specs.declared.Listed.{Listed}
-use Rattle.closest_call.specs.Closest.{entriesOf, distanceTo, closestNodes, closestNumber, nodesFor, listed, withFront, numberAndCount, nodeAt, withChosen}
+use Rattle.closest_nodes.specs.declared.Listed.{Listed}
+use Rattle.closest_nodes.specs.Closest.{entriesOf, distanceTo, closestNodes, closestNumber, nodesFor, listed, withFront, numberAndCount, nodeAt, withChosen}
 
 -- "the min(16, seated) seated nodes"
 pub count-of-closest : (s target : Bytes) → length (closestNodes s target) ≡ min 16 (length (entriesOf s))

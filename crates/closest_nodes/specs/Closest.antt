@@ -18,8 +18,7 @@ use Rattle.calls_model.specs.Calls.{answerOn}
 use Rattle.closest_choice.specs.declared.Choice.{Choice}
 use Rattle.entry.specs.Nodes.{nodeOf}
 use Rattle.closest_choice.specs.Closest.{nodeIn}
-use Rattle.closest_call.specs.declared.Listed.{Listed}
-use Rattle.closest_call.specs.declared.Found.{Found}
+use Rattle.closest_nodes.specs.declared.Listed.{Listed}
 
 -- the entries (document 01's seats) of all buckets: in rising bucket number, in each from the head
 abbrev pub entriesOf : Bytes → List Entry
@@ -53,11 +52,6 @@ withFront nodes list = nodes ++ drop (length nodes) list
 -- the list after the call
 abbrev pub listAfter : Bytes → Bytes → List Node → List Node
 listAfter s target list = withFront (nodesFor s target (length list)) list
-
--- the answer and the list after it, of a list of sixteen records by value
-abbrev pub found : Bytes → Bytes → List Node → Found
-found s target list =
-    record { number = closestNumber s target 16; count = length (nodesFor s target 16); nodes = listAfter s target list }
 
 -- ---- the steps of the call: what `choice` tells, and its nodes
 

@@ -1,7 +1,7 @@
--- `closest_call::chosen_node` meets its contract. Assumes nothing.
+-- `closest_nodes::chosen_node` meets its contract. Assumes nothing.
 use borrow.Author.Needs.{needs}
-use Rattle.closest_call.proofs.chosen_node.Statement.{statement}
-use Rattle.closest_call.proofs.chosen_node.Tie as tie
+use Rattle.closest_nodes.proofs.chosen_node.Statement.{statement}
+use Rattle.closest_nodes.proofs.chosen_node.Tie as tie
 
 returns : tie.Need-returns
 returns c = c .node-in .ensures
