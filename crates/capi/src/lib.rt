@@ -184,17 +184,13 @@ pub extern "C" fn coghammer_node_at(
     ensures { λ _. ⌜ now (address .exit) ≡ spans.nodeAt n (span.bytesOf (now (datagram .entry)) (record { start = start; len = len })) .endpoint .address ⌝ }
     ensures { λ _. ⌜ now (numbers .exit) ≡ nodeNumbers (spans.nodeAt n (span.bytesOf (now (datagram .entry)) (record { start = start; len = len }))) ⌝ }
 {
-    let node = discv4::node_at(datagram, Span { start, len }, n);
-    let key = node.key;
-    let endpoint = node.endpoint;
-    let bytes = endpoint.address;
-    *node_key = key;
-    *address = bytes;
-    *numbers = [
-        endpoint.len as u64,
-        endpoint.udp as u64,
-        endpoint.tcp as u64,
-    ];
+    let node = flat_packet::node_fields(datagram, start, len, n);
+    let held_key = node.key;
+    let held_address = node.address;
+    let held_numbers = node.numbers;
+    *node_key = held_key;
+    *address = held_address;
+    *numbers = held_numbers;
 }
 
 // ---- packets written: the code of 0 and the size, or of 19 or 20

@@ -14,6 +14,7 @@ use Rattle.packets.specs.declared.FindNode.{FindNode}
 use Rattle.packets.specs.declared.Neighbors.{Neighbors}
 use Rattle.packets.specs.declared.EnrRequest.{EnrRequest}
 use Rattle.packets.specs.declared.EnrResponse.{EnrResponse}
+use Rattle.flat_packet.specs.declared.FlatNode.{FlatNode}
 
 abbrev pub seqPresent : EnrSeq → ℕ
 seqPresent Absent = 0
@@ -78,3 +79,7 @@ fieldsAfter (packet.Refused n) old = old
 -- a node's numbers: address length, UDP port, TCP port
 abbrev pub nodeNumbers : Node → List ℕ
 nodeNumbers n = n .endpoint .len ∷ n .endpoint .udp ∷ n .endpoint .tcp ∷ []
+
+-- a node, with its key and its address beside them
+abbrev pub flatNode : Node → FlatNode
+flatNode n = record { key = n .key; address = n .endpoint .address; numbers = nodeNumbers n }

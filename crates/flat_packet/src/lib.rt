@@ -1,7 +1,9 @@
-// The fields of a datagram's packet as numbers in fixed places, for C.
+// The fields of a datagram's packet as numbers in fixed places, and the nodes of a Neighbors, for C.
 ghost use mathlib.Core.Path.{_≡_};
+ghost use Rattle.span.specs.Parts.{bytesOf};
+ghost use Rattle.spans.specs.Spans.{nodeAt};
 ghost use Rattle.wire.specs.Datagram.{packetIn};
-ghost use Rattle.flat_packet.specs.Fields.{seqPresent, seqValue, flatPing, flatPong, flatFindNode, flatNeighbors, flatEnrRequest, flatEnrResponse, readNumber, fieldsAfter};
+ghost use Rattle.flat_packet.specs.Fields.{seqPresent, seqValue, flatPing, flatPong, flatFindNode, flatNeighbors, flatEnrRequest, flatEnrResponse, readNumber, fieldsAfter, flatNode};
 use packet_items::EnrSeq;
 use packets::EnrRequest;
 use packets::EnrResponse;
@@ -10,6 +12,7 @@ use packets::Neighbors;
 use packets::Packet;
 use packets::Ping;
 use packets::Pong;
+use span::Span;
 
 fn seq_present(enr_seq: EnrSeq) -> u64
     ensures { λ r. ⌜ r ≡ seqPresent «enr_seq» ⌝ }
@@ -177,4 +180,31 @@ pub fn read_fields(datagram: &[u8], old: [u64; 20]) -> Fields
     let number = number_of(packet);
     let fields = fields_of(packet, old);
     Fields { number, fields }
+}
+
+// A node: its key, its address, and as numbers the address length, the UDP port and the TCP port.
+pub struct FlatNode {
+    pub key: [u8; 64],
+    pub address: [u8; 16],
+    pub numbers: [u64; 3],
+}
+
+// Node `n` of a Neighbors packet, counted from 0, by the start and length of its nodes; zeros where there is none.
+pub fn node_fields(datagram: &[u8], start: usize, len: usize, n: usize) -> FlatNode
+    ensures { λ r. ⌜ r ≡ flatNode (nodeAt n (bytesOf (now (datagram .entry)) (record { start = start; len = len }))) ⌝ }
+{
+    let node = spans::node_at(datagram, Span { start, len }, n);
+    let key = node.key;
+    let endpoint = node.endpoint;
+    let address = endpoint.address;
+    let numbers = [
+        endpoint.len as u64,
+        endpoint.udp as u64,
+        endpoint.tcp as u64,
+    ];
+    FlatNode {
+        key,
+        address,
+        numbers,
+    }
 }
