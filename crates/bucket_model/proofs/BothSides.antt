@@ -8,30 +8,24 @@ use Rattle.entry.specs.declared.EndpointProof.the-variants.{At}
 use Rattle.entry.specs.declared.PingState.the-variants.{Out}
 use Rattle.bucket_model.specs.Rules.{millis, pingTimeout, proofLifetime, proofHolds, proofExpired, isOverdue}
 
--- "a proof 43,200,000 ms old holds, 43,200,001 doesn't"
-pub record P9 : Type 0 where
-  pub holds : (t : ℕ) → proofHolds (t + 43200000) (At (millis t)) ≡ true
-  pub kept : (t : ℕ) → proofExpired (t + 43200000) (At (millis t)) ≡ false
-  pub fails : (t : ℕ) → proofHolds (t + 43200001) (At (millis t)) ≡ false
-  pub dropped : (t : ℕ) → proofExpired (t + 43200001) (At (millis t)) ≡ true
+module _ (t : ℕ) where
+  -- a proof of 43,200,000 ms ago holds, and a sweep keeps it
+  pub proof-holds : proofHolds (t + 43200000) (At (millis t)) ≡ true
+  proof-holds = le-leb (t + 43200000 - t) proofLifetime (omega arith)
 
-pub p9 : P9
-p9 =
-    record {
-      holds = λ t. le-leb (t + 43200000 - t) proofLifetime (omega arith);
-      kept = λ t. le-ltb proofLifetime (t + 43200000 - t) (omega arith);
-      fails = λ t. lt-leb (t + 43200001 - t) proofLifetime (omega arith);
-      dropped = λ t. lt-ltb proofLifetime (t + 43200001 - t) (omega arith);
-    }
+  pub proof-kept : proofExpired (t + 43200000) (At (millis t)) ≡ false
+  proof-kept = le-ltb proofLifetime (t + 43200000 - t) (omega arith)
 
--- "a pong after 500 ms is in time, after 501 late"
-pub record P10 : Type 0 where
-  pub in-time : (t : ℕ) → isOverdue (t + 500) (Out (millis t)) ≡ false
-  pub late : (t : ℕ) → isOverdue (t + 501) (Out (millis t)) ≡ true
+  -- one of 43,200,001 ms ago does not, and is dropped
+  pub proof-fails : proofHolds (t + 43200001) (At (millis t)) ≡ false
+  proof-fails = lt-leb (t + 43200001 - t) proofLifetime (omega arith)
 
-pub p10 : P10
-p10 =
-    record {
-      in-time = λ t. le-ltb pingTimeout (t + 500 - t) (omega arith);
-      late = λ t. lt-ltb pingTimeout (t + 501 - t) (omega arith);
-    }
+  pub proof-dropped : proofExpired (t + 43200001) (At (millis t)) ≡ true
+  proof-dropped = lt-ltb proofLifetime (t + 43200001 - t) (omega arith)
+
+  -- a ping of 500 ms ago is not overdue, one of 501 ms ago is
+  pub ping-in-time : isOverdue (t + 500) (Out (millis t)) ≡ false
+  ping-in-time = le-ltb pingTimeout (t + 500 - t) (omega arith)
+
+  pub ping-overdue : isOverdue (t + 501) (Out (millis t)) ≡ true
+  ping-overdue = lt-ltb pingTimeout (t + 501 - t) (omega arith)

@@ -80,14 +80,3 @@ somewhere d i {bits} h e z =
     (λ t. let k : bits ≡ i + 1 = eqb-true _ _ t in eq-eqb (bits - 1) i (omega arith) ∙ sym t)
     (λ t. ne-eqb (bits - 1) i (λ k. eqb-false bits (i + 1) t (omega arith)) ∙ sym t) in
     same ∙ ap (λ m. eqb m (i + 1)) e ∙ sym (inBucket-bits i d h)
-
--- P8: distances 1, 2, 3, 2^255 fall in buckets 0, 1, 1, 255
-pub record P8 : Type 0 where
-  pub one : inBucket 0 1 ≡ true
-  pub two : inBucket 1 2 ≡ true
-  pub three : inBucket 1 3 ≡ true
-  pub top : inBucket 255 (2 ^ 255) ≡ true
-
-pub p8 : P8
-unfolding inBucket
-p8 = record { one = refl; two = refl; three = refl; top = refl }

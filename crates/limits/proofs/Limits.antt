@@ -1,10 +1,53 @@
--- P1 to P12 hold.
-use Rattle.rlp.proofs.Examples.{examples}
-use Rattle.distance.proofs.Buckets.{p8}
-use Rattle.bucket_model.proofs.BothSides.{p9, p10}
+-- P1 to P12 hold. Assumes nothing.
+use Prim.Native.Nat.{ℕ}
+use mathlib.Core.Path.{_≡_, refl, ap, _∙_}
+use mathlib.Core.List.{[], _++_}
+use native.Mathlib.Omega.{arith}
+use lib.ListN.{length, take}
+use Rattle.octets.specs.Octets.{Bytes, bigEndian}
+use Rattle.rlp.specs.Numbers.{divisions, width}
+use Rattle.rlp.specs.Encoding.{encode, header, string, list}
+use Rattle.rlp.specs.Reading.{head, sized, strict, uintOf}
+use Rattle.rlp.proofs.Writing.{encode-framed, encode-list}
+use Rattle.distance.specs.Distance.{inBucket}
+use Rattle.bucket_model.proofs.BothSides.{proof-holds, proof-kept, proof-fails, proof-dropped, ping-in-time, ping-overdue}
 use Rattle.packet_laws.proofs.Sizes.{reply-sizes}
-use Rattle.wire.proofs.Theorems.{p12}
 use Rattle.limits.specs.Limits.{Limits}
 
+string-header : (s : Bytes) (n : ℕ) → length s ≡ n → (n ≡ 1 → ⊥) → encode (string s) ≡ header 0x80 n ++ s
+string-header s n e ne = encode-framed s (λ (o : length s ≡ 1). absurd (omega arith)) ∙ ap (λ (k : ℕ). header 0x80 k ++ s) e
+
+list-header : (p : Bytes) (n : ℕ) → length p ≡ n → encode (list p) ≡ header 0xc0 n ++ p
+list-header p n e = encode-list p ∙ ap (λ (k : ℕ). header 0xc0 k ++ p) e
+
 pub limits : Limits
-limits = record { p1-to-p7 = examples; p8 = p8; p9 = p9; p10 = p10; p11 = reply-sizes; p12 = p12 }
+unfolding encode header bigEndian width divisions uintOf head sized strict inBucket
+limits =
+    record {
+      p1 = refl;
+      p2-127 = refl;
+      p2-128 = refl;
+      p3 = refl;
+      p4-00 = refl;
+      p4-81-7f = refl;
+      p5-55 = λ s e. ap (take 1) (string-header s 55 e (λ (o : 55 ≡ 1). omega arith));
+      p5-56 = λ s e. ap (take 2) (string-header s 56 e (λ (o : 56 ≡ 1). omega arith));
+      p6-55 = λ p e. ap (take 1) (list-header p 55 e);
+      p6-56 = λ p e. ap (take 2) (list-header p 56 e);
+      p7 = refl;
+      p8-1 = refl;
+      p8-2 = refl;
+      p8-3 = refl;
+      p8-top = refl;
+      p9-holds = proof-holds;
+      p9-kept = proof-kept;
+      p9-fails = proof-fails;
+      p9-dropped = proof-dropped;
+      p10-500 = ping-in-time;
+      p10-501 = ping-overdue;
+      p11 = reply-sizes;
+      p12-passes = refl;
+      p12-fails = refl;
+      p12-accepted = λ g e. rw e;
+      p12-refused = λ g e. rw e;
+    }

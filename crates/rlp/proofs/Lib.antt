@@ -3,4 +3,3 @@ pub mod Numbers
 pub mod Reading
 pub mod Writing
 pub mod Encoding
-pub mod Examples
