@@ -3,11 +3,12 @@ use Prim.Native.Nat.{ℕ, _-_}
 use mathlib.Core.Bool.{Bool, true, false, cond, not, _&&_, _||_}
 use mathlib.Core.List.{List, [], _∷_, _++_, map}
 use lib.Dec.{leb, ltb, eqb}
-use lib.ListN.{length, take, replicate}
+use lib.ListN.{length, replicate}
 use Rattle.octets.specs.Octets.{Bytes, sameBytes}
 use Rattle.lists.specs.Lists.{select, any, empty}
 use Rattle.entry.specs.declared.MonotonicMillis.{MonotonicMillis}
 use Rattle.entry.specs.declared.Endpoint.{Endpoint}
+use Rattle.entry.specs.Nodes.{addressOf}
 use Rattle.entry.specs.declared.Entry.{Entry}
 use Rattle.entry.specs.declared.EndpointProof.{EndpointProof}
 use Rattle.entry.specs.declared.EndpointProof.the-variants.{Unproved, At}
@@ -78,9 +79,6 @@ isOut (Out t) = true
 abbrev pub isOverdue : ℕ → PingState → Bool
 isOverdue now Quiet = false
 isOverdue now (Out t) = ltb pingTimeout (now - t .0)
-
-abbrev pub addressOf : Endpoint → Bytes
-addressOf e = take (e .len) (e .address)
 
 -- held at this address and UDP port
 abbrev pub isAt : Bytes → ℕ → Entry → Bool

@@ -1,7 +1,13 @@
 -- Node records.
-use lib.ListN.{replicate}
+use lib.ListN.{take, replicate}
+use Rattle.octets.specs.Octets.{Bytes}
+use Rattle.entry.specs.declared.Endpoint.{Endpoint}
 use Rattle.entry.specs.declared.Node.{Node}
 use Rattle.entry.specs.declared.Entry.{Entry}
+
+-- the address of an endpoint: as many of the 16 bytes as it has
+abbrev pub addressOf : Endpoint → Bytes
+addressOf e = take (e .len) (e .address)
 
 -- a node of zeros
 abbrev pub noNode : Node

@@ -9,7 +9,7 @@ use Rattle.rows.specs.Rows.{keyText, pingText}
 use Rattle.entry.specs.declared.Entry.{Entry}
 use Rattle.entry.specs.declared.EndpointProof.{EndpointProof}
 use Rattle.entry.specs.declared.EndpointProof.the-variants.{Unproved, At}
-use Rattle.bucket_model.specs.Rules.{addressOf}
+use Rattle.entry.specs.Nodes.{addressOf}
 
 -- `-`
 abbrev pub noProof : Bytes

@@ -10,7 +10,7 @@ use Rattle.entry.specs.declared.Endpoint.{Endpoint}
 use Rattle.entry.specs.declared.MonotonicMillis.{MonotonicMillis}
 use Rattle.entry.specs.declared.EndpointProof.{EndpointProof}
 use Rattle.entry.specs.declared.PingState.{PingState}
-use Rattle.bucket_model.specs.Rules.{addressOf}
+use Rattle.entry.specs.Nodes.{addressOf}
 use Rattle.entry_row.specs.EntryRow.{proofText}
 
 -- the word, the distance and the place

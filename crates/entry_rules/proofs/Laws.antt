@@ -14,7 +14,8 @@ use Rattle.entry.specs.declared.Endpoint.{Endpoint}
 use Rattle.entry.specs.declared.MonotonicMillis.{MonotonicMillis}
 use Rattle.entry.specs.declared.EndpointProof.the-variants.{Unproved}
 use Rattle.entry.specs.declared.PingState.the-variants.{Out}
-use Rattle.bucket_model.specs.Rules.{addressOf, pinged, endpointOf, newEntry}
+use Rattle.entry.specs.Nodes.{addressOf}
+use Rattle.bucket_model.specs.Rules.{pinged, endpointOf, newEntry}
 
 -- a compound test, of tests that are known
 pub joined : {r a b x y : Bool} → r ≡ (a && b) → a ≡ x → b ≡ y → r ≡ (x && y)

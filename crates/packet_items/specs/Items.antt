@@ -2,11 +2,11 @@
 -- that may follow the fields: Ping's and Pong's optional enr-seq, and those that a reader ignores (EIP-8).
 use Prim.Native.Nat.{ℕ}
 use mathlib.Core.List.{List, [], _∷_, map}
-use lib.ListN.{take}
 use Rattle.octets.specs.Octets.{Bytes}
 use Rattle.rlp.specs.Numbers.{uintBytes}
 use Rattle.rlp.specs.Encoding.{Item, string, list, encode, encodes}
 use Rattle.entry.specs.declared.Node.{Node}
+use Rattle.entry.specs.Nodes.{addressOf}
 use Rattle.packet_items.specs.declared.EnrSeq.{EnrSeq}
 use Rattle.packet_items.specs.declared.EnrSeq.the-variants.{Absent, Present}
 
@@ -26,13 +26,9 @@ endpoint address udp tcp = list (encodes (string address ∷ uint udp ∷ uint t
 abbrev pub node : Bytes → ℕ → ℕ → Bytes → Item
 node address udp tcp key = list (encodes (string address ∷ uint udp ∷ uint tcp ∷ string key ∷ []))
 
--- the address of a node record
-abbrev pub addressOf : Node → Bytes
-addressOf n = take (n .endpoint .len) (n .endpoint .address)
-
 -- a node record as an item
 abbrev pub nodeItem : Node → Item
-nodeItem n = node (addressOf n) (n .endpoint .udp) (n .endpoint .tcp) (n .key)
+nodeItem n = node (addressOf (n .endpoint)) (n .endpoint .udp) (n .endpoint .tcp) (n .key)
 
 -- the optional enr-seq of Ping and Pong
 abbrev pub enrSeqItems : EnrSeq → List Item

@@ -8,13 +8,14 @@ use borrow.Author.Tests.{eqb-true, eq-eqb, le-leb}
 use lib.Dec.{eqb}
 use lib.ListN.{length, take, drop, getD, length-append}
 use Rattle.entry.specs.declared.Node.{Node}
+use Rattle.entry.specs.Nodes.{addressOf}
 use lib.Seq.{take-at, drop-at, drop-append-add, getD-append-add}
 use Rattle.octets.specs.Octets.{Bytes, Slice, part}
 use Rattle.octets.proofs.Laws.{same-refl}
 use Rattle.keccak.specs.Sponge.{keccak256}
 use Rattle.keccak.proofs.Laws.{keccak256-length}
 use Rattle.rlp.specs.Encoding.{Item, encode, encodes}
-use Rattle.packet_items.specs.Items.{dataOf, endpoint, pingItems, pongItems, findNodeItems, neighborsItems, enrRequestItems, enrResponseItems, enrSeqItems, addressOf, nodeItem}
+use Rattle.packet_items.specs.Items.{dataOf, endpoint, pingItems, pongItems, findNodeItems, neighborsItems, enrRequestItems, enrResponseItems, enrSeqItems, nodeItem}
 use Rattle.packet_items.specs.declared.EnrSeq.{EnrSeq}
 use Rattle.packet_items.specs.declared.EnrSeq.the-variants.{Absent, Present}
 use Rattle.schema.specs.Shapes.{Begins}
@@ -222,7 +223,7 @@ module _ (s : Bytes) (sized : length s ≡ 65) where
 nodes-bound : (ns : List Node) → NodesGood ns → length (encodes (map nodeItem ns)) ≤ 91 * length ns
 nodes-bound [] h = omega arith
 nodes-bound (n ∷ ns) h =
-    let a : Bytes = addressOf n in
+    let a : Bytes = addressOf (n .endpoint) in
     let e = n .endpoint in
     let g = h .0 .good in
     let z = node-size a (e .udp) (e .tcp) (n .key) (g .sized) (h .0 .key-sized) (omega (arith, g .udp-fits)) (omega (arith, g .tcp-fits)) in

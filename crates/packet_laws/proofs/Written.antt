@@ -12,8 +12,9 @@ use lib.Seq.{take-append-seam}
 use Rattle.octets.specs.Octets.{Bytes}
 use Rattle.octets.proofs.Laws.{store-eq}
 use Rattle.entry.specs.declared.Node.{Node}
+use Rattle.entry.specs.Nodes.{addressOf}
 use Rattle.rlp.specs.Encoding.{Item}
-use Rattle.packet_items.specs.Items.{node, neighborsItems, addressOf, nodeItem}
+use Rattle.packet_items.specs.Items.{node, neighborsItems, nodeItem}
 use Rattle.packet_items.specs.declared.EnrSeq.{EnrSeq}
 use Rattle.packet_items.specs.declared.EnrSeq.the-variants.{Absent, Present}
 use Rattle.spans.specs.Spans.{padded}
@@ -38,17 +39,17 @@ unfoldable pub padNode : Node → Node
 padNode n =
     record {
       key = n .key;
-      endpoint = record { len = n .endpoint .len; address = padded 16 (addressOf n); udp = n .endpoint .udp; tcp = n .endpoint .tcp };
+      endpoint = record { len = n .endpoint .len; address = padded 16 (addressOf (n .endpoint)); udp = n .endpoint .udp; tcp = n .endpoint .tcp };
     }
 
 module _ (n : Node) (f : NodeFits n) (ok : isAddressSize (n .endpoint .len) ≡ true) where
-  size : length (addressOf n) ≡ n .endpoint .len
+  size : length (addressOf (n .endpoint)) ≡ n .endpoint .len
   size = address-length (n .endpoint .len) (n .endpoint .address) ok (f .address)
 
-  same-address : addressOf (padNode n) ≡ addressOf n
+  same-address : addressOf (padNode n .endpoint) ≡ addressOf (n .endpoint)
   unfolding padNode
   same-address =
-      ap (λ (k : ℕ). take k (padded 16 (addressOf n))) (sym size) ∙ take-padded (addressOf n) (omega (arith, size, address-size (n .endpoint .len) ok))
+      ap (λ (k : ℕ). take k (padded 16 (addressOf (n .endpoint)))) (sym size) ∙ take-padded (addressOf (n .endpoint)) (omega (arith, size, address-size (n .endpoint .len) ok))
 
   good : NodeGood (padNode n)
   unfolding padNode

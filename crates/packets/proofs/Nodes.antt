@@ -14,11 +14,12 @@ use Rattle.rlp.proofs.Numbers.{uint-lead}
 use Rattle.rlp.proofs.Reading.{item-bounds}
 use Rattle.rlp.proofs.Writing.{header-short, header-long, encode-framed, encode-list}
 use Rattle.rlp.proofs.Encoding.{read-item, encode-length, small-first, small-rest}
-use Rattle.packet_items.specs.Items.{uint, node, addressOf, nodeItem}
+use Rattle.packet_items.specs.Items.{uint, node, nodeItem}
 use Rattle.schema_items.specs.Kinds.{isAddress}
 use Rattle.schema.specs.Shapes.{IsEndpoint, IsNode, AllNodes}
 use Rattle.schema_items.proofs.Payload.{items-encodes}
 use Rattle.entry.specs.declared.Node.{Node}
+use Rattle.entry.specs.Nodes.{addressOf}
 use Rattle.spans.specs.Spans.{fitting, padded, nodeOf, nodesOf}
 use Rattle.packets.specs.Accepted.{NodeGood, NodesGood}
 use Rattle.packets.proofs.Values.{Lies, item-is, port-is}
@@ -71,7 +72,7 @@ module _ (a : Bytes) (u t : ℕ) (k : Bytes) (good : IsEndpoint a u t) (sized : 
       let tcp = port-is p 0 p parts lies refl small 2 refl (good .tcp-fits) in
       λ j. record { key = key j; endpoint = record { len = len j; address = address j; udp = udp j; tcp = tcp j } }
 
-  back : addressOf (made a u t k) ≡ a
+  back : addressOf (made a u t k .endpoint) ≡ a
   back = padded-front 16 a (address-range a (good .sized) .1)
 
   made-item : nodeItem (made a u t k) ≡ node a u t k
@@ -118,7 +119,7 @@ nodes-good (i ∷ is) small a = (node-good i (a .0) (small-first i is small), no
 
 item-node : (n : Node) → NodeGood n → IsNode (nodeItem n)
 item-node n h =
-    record { address = addressOf n; udp = n .endpoint .udp; tcp = n .endpoint .tcp; key = n .key; is = refl; good = h .good; sized = h .key-sized }
+    record { address = addressOf (n .endpoint); udp = n .endpoint .udp; tcp = n .endpoint .tcp; key = n .key; is = refl; good = h .good; sized = h .key-sized }
 
 pub all-nodes : (ns : List Node) → NodesGood ns → AllNodes (map nodeItem ns)
 all-nodes [] h = tt
@@ -126,7 +127,7 @@ all-nodes (n ∷ ns) h = (item-node n (h .0), all-nodes ns (h .1))
 
 same-node : (n : Node) → NodeGood n → length (payloadOf (nodeItem n)) < 2 ^ 64 → nodeIn (nodeItem n) ≡ n
 same-node n h small =
-    node-made (addressOf n) (n .endpoint .udp) (n .endpoint .tcp) (n .key) (h .good) (h .key-sized) small
+    node-made (addressOf (n .endpoint)) (n .endpoint .udp) (n .endpoint .tcp) (n .key) (h .good) (h .key-sized) small
     ∙ (λ j. record { key = n .key; endpoint = record { len = sym (h .len) j; address = sym (h .address) j; udp = n .endpoint .udp; tcp = n .endpoint .tcp } })
 
 pub same-nodes : (ns : List Node) → NodesGood ns → Small (map nodeItem ns) → map nodeIn (map nodeItem ns) ≡ ns
@@ -149,7 +150,7 @@ long-header b n h = omega (arith, ap length (header-long b n h), uint-lead n (om
 
 node-size : (n : Node) → NodeGood n → length (payloadOf (nodeItem n)) < 2 ^ 64 → 75 ≤ length (encode (nodeItem n))
 node-size n h small =
-    let a : Bytes = addressOf n in
+    let a : Bytes = addressOf (n .endpoint) in
     let k : Bytes = n .key in
     let u : Item = uint (n .endpoint .udp) in
     let t : Item = uint (n .endpoint .tcp) in

@@ -5,11 +5,12 @@ use mathlib.Core.List.{List, [], _∷_, map}
 use lib.ListN.{length}
 use Rattle.octets.specs.Octets.{Bytes}
 use Rattle.rlp.specs.Encoding.{Item, list, encode}
-use Rattle.packet_items.specs.Items.{uint, endpoint, addressOf, nodeItem, pingItems, pongItems, findNodeItems, neighborsItems, enrRequestItems, enrResponseItems}
+use Rattle.packet_items.specs.Items.{uint, endpoint, nodeItem, pingItems, pongItems, findNodeItems, neighborsItems, enrRequestItems, enrResponseItems}
 use Rattle.packet_items.specs.declared.EnrSeq.{EnrSeq}
 use Rattle.packet_items.specs.declared.EnrSeq.the-variants.{Absent, Present}
 use Rattle.schema.specs.Shapes.{IsEndpoint, Begins}
 use Rattle.entry.specs.declared.Node.{Node}
+use Rattle.entry.specs.Nodes.{addressOf}
 use Rattle.span.specs.Parts.{bytesOf}
 use Rattle.spans.specs.Spans.{padded, nodesOf}
 use Rattle.packets.specs.declared.Ping.{Ping}
@@ -119,9 +120,9 @@ neighborsFields g p = record { nodes = nodesOf (bytesOf g (p .nodes)); expiratio
 
 -- the address of a node, which is padded with zeros
 pub record NodeGood (n : Node) : Type 0 where
-  pub good : IsEndpoint (addressOf n) (n .endpoint .udp) (n .endpoint .tcp)
-  pub len : n .endpoint .len ≡ length (addressOf n)
-  pub address : n .endpoint .address ≡ padded 16 (addressOf n)
+  pub good : IsEndpoint (addressOf (n .endpoint)) (n .endpoint .udp) (n .endpoint .tcp)
+  pub len : n .endpoint .len ≡ length (addressOf (n .endpoint))
+  pub address : n .endpoint .address ≡ padded 16 (addressOf (n .endpoint))
   pub key-sized : length (n .key) ≡ 64
 
 abbrev pub NodesGood : List Node → Type 0

@@ -8,7 +8,7 @@ use lib.Seq.{length-take-le}
 use Rattle.octets.specs.Octets.{Bytes}
 use Rattle.text.specs.Decimals.{decimal}
 use Rattle.text.specs.Hex.{hex}
-use Rattle.bucket_model.specs.Rules.{addressOf}
+use Rattle.entry.specs.Nodes.{addressOf}
 use Rattle.octets.proofs.Progress.{Progress, start, room, step, finish}
 use borrow.Author.Needs.{needs}
 use Rattle.entry_row.proofs.put_endpoint.Statement.{statement}
