@@ -5,9 +5,9 @@
     public_call.py by-value NAME MODEL ANSWER KIND..    counted_NAME::NAME_with(counters: Counters, table: &mut [u8], P1, ..)
     public_call.py c-call NAME MODEL ANSWER KIND..      capi::coghammer_NAME(counters: &mut Counters, table: &mut [u8], P1, ..)
 
-NAME does its work by NAME_call::NAME_on, counts the answer's number and returns the answer; NAME_with lends a copy of its counters
-to NAME; coghammer_NAME does its work by plain_calls::NAME_on. MODEL is the call's constructor in history's specs/Model.antt. ANSWER is
-`number` (a u8: the answer number), `received` (a datagram_answer::Received) or `code` (a u32, of which answer_code::number_in is the number). A KIND
+NAME does its work by call_NAME::NAME_on, counts the answer's number and returns the answer; NAME_with lends a copy of its counters
+to NAME; coghammer_NAME does its work by capi_calls::NAME_on. MODEL is the call's constructor in call_history's specs/Model.antt. ANSWER is
+`number` (a u8: the answer number), `received` (a call_answer::Received) or `code` (a u32, of which capi_codes::number_in is the number). A KIND
 is that of a parameter after the table: slice, u16, u64, or a struct that holds one number, as entry::UnixSeconds.
 
 A proof finds each local by where it stands in the context, so it fits that body only. The two texts are CALL and BY_VALUE, at
@@ -148,13 +148,13 @@ def walk(names, k, by_value):
     }
 
 
-ANSWERS = {"number": "u8", "received": "datagram_answer::Received", "code": "u32"}
+ANSWERS = {"number": "u8", "received": "call_answer::Received", "code": "u32"}
 
 # of an answer that is not its own number: the number's definition, the function that tells it, and what the answer is
 NUMBERS = {
     "number": ("", "", ""),
-    "received": ("numberOf", "datagram_answer::number", "{}"),
-    "code": ("numberIn", "answer_code::number_in", "receivedCode ({})"),
+    "received": ("numberOf", "call_answer::number", "{}"),
+    "code": ("numberIn", "capi_codes::number_in", "receivedCode ({})"),
 }
 
 
@@ -170,13 +170,13 @@ def proof(mode, name, model, answer, *kinds):
     call = f"(model.{model} {' '.join(args)})"
     row, law, _, tell, makes, mir = plain(ANSWERS[answer], "TA")
     function = name + "_with" if by_value else "coghammer_" + name if for_c else name
-    crate, work_crate = ("capi", "plain_calls") if for_c else ("counted_" + name, name + "_call")
+    crate, work_crate = ("capi", "capi_calls") if for_c else ("counted_" + name, "call_" + name)
     values = {
         "name": name, "name-dashed": name.replace("_", "-"), "function": function, "function-dashed": function.replace("_", "-"),
         "crate": crate, "crate-dashed": crate.replace("_", "-"), "crate-proofs": f"Rattle.{crate}.proofs",
         "work-crate": work_crate, "work-crate-dashed": work_crate.replace("_", "-"), "work-proofs": f"Rattle.{work_crate}.proofs",
         "number-name": NUMBERS[answer][0], "number-call": NUMBERS[answer][1].replace("::", "·").replace("_", "-"),
-        "number-proofs": "Rattle.answer_code.proofs.number_in" if for_c else "Rattle.datagram_answer.proofs.number",
+        "number-proofs": "Rattle.capi_codes.proofs.number_in" if for_c else "Rattle.call_answer.proofs.number",
         "Answer": "Received" if answer == "received" else "ℕ", "Result": "CountedNumber" if number else "Counted", "field": answer,
         "result-specs": "Rattle.counters.specs" if number else f"Rattle.{crate}.specs",
         "result-proofs": "Rattle.counters.proofs" if number else f"Rattle.{crate}.proofs",
@@ -300,14 +300,14 @@ use denote.Exit.{yes}
 use Rattle.walk.proofs.Call.{Callee, the-contract, Tokens, Owned, Last, calls-known, calls-plain}
 use Rattle.walk.proofs.Facts.{joined, parted, says-all}
 use Rattle.walk.proofs.Lent.{lent, back}
-use Rattle.history.specs.Model as model
-use Rattle.calls_model.specs.Calls.{answerOn, bytesAfter}
-use Rattle.calls_model.specs.Reading.{reading}
-use Rattle.datagram_answer.specs.Answer.{numberOf}
-use Rattle.datagram_call.specs.Received.{received}
-use Rattle.datagram_answer.specs.declared.Received.{Received}
-use Rattle.datagram_answer.proofs.Received as TA
-use Rattle.datagram_answer.proofs.Received.Laws as TA′
+use Rattle.call_history.specs.Model as model
+use Rattle.call_model.specs.Calls.{answerOn, bytesAfter}
+use Rattle.call_model.specs.Reading.{reading}
+use Rattle.call_answer.specs.Answer.{numberOf}
+use Rattle.call_datagram.specs.Received.{received}
+use Rattle.call_answer.specs.declared.Received.{Received}
+use Rattle.call_answer.proofs.Received as TA
+use Rattle.call_answer.proofs.Received.Laws as TA′
 use Rattle.counters.specs.Counters.{raised}
 use Rattle.counters.specs.declared.Counters.{Counters}
 use Rattle.counters.proofs.Counters as TC
@@ -316,7 +316,7 @@ use Rattle.counters.proofs.count as count
 use Rattle.counters.proofs.count.Symbol as count-def
 use Rattle.counters.proofs.count.Symbol.{name as #count}
 use Rattle.counters.proofs.count.Met as count-thm
-use Rattle.answer_code.specs.Codes.{numberIn, receivedCode}
+use Rattle.capi_codes.specs.Codes.{numberIn, receivedCode}
 ‹uses›
 """
 

@@ -1,4 +1,4 @@
-"""Prints what the program keccak_vectors must print: vectors.py > crates/keccak_vectors/stdout"""
+"""Prints what the program test_keccak must print: vectors.py > crates/test_keccak/stdout"""
 from keccak256 import PUBLISHED, check, keccak256
 
 

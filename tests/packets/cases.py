@@ -1,9 +1,9 @@
-"""Cases for the program packet_cases, from a seed, with the lines that it must print.
+"""Cases for the program test_packets, from a seed, with the lines that it must print.
 
     cases.py SEED COUNT CASES EXPECTED     writes the two files
     cases.py --stored DIR                  writes the bounded set that is kept with the program: DIR/stdin and DIR/stdout
 
-The expected lines come from reference.py alone. The case format is described in crates/packet_cases/src/main.rt.
+The expected lines come from reference.py alone. The case format is described in crates/test_packets/src/main.rt.
 """
 
 import os

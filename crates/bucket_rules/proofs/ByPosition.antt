@@ -16,9 +16,9 @@ use Rattle.bucket_model.specs.Sound.{distinct}
 use Rattle.bucket.specs.declared.Position.{Position}
 use Rattle.bucket.specs.declared.Position.the-variants.{Absent, InEntries, InReplacements}
 use Rattle.bucket.specs.Values.{removeAt, indexOf, positionOf}
-use Rattle.bucket_lookup.specs.declared.Lookup.{Lookup}
-use Rattle.bucket_lookup.specs.Found.{found, LooksUp}
-use Rattle.bucket_lookup.proofs.ByKey.{none-of, none-without, none-update, one-of, one-without, one-update, Found, located}
+use Rattle.bucket_rules.specs.declared.Lookup.{Lookup}
+use Rattle.bucket_rules.specs.Found.{found, LooksUp}
+use Rattle.bucket_rules.proofs.ByKey.{none-of, none-without, none-update, one-of, one-without, one-update, Found, located}
 use Rattle.bucket_rules.specs.Changes.{putAt, tailAt, promoteAt, joinLine}
 
 -- one entry of a list, which is the one of the key

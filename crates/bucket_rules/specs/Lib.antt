@@ -1,1 +1,3 @@
+pub mod Sweep
+pub mod Found
 pub mod Changes

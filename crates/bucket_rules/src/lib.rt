@@ -1,15 +1,253 @@
 // The rules of one bucket by value: ping sent, pong, and other packets.
 ghost use mathlib.Core.Path.{_≡_};
+ghost use mathlib.Core.Bool.{cond, not, _&&_, _||_};
 ghost use Prim.Native.Nat.{_≤_, _<_};
-ghost use lib.ListN.{length};
-ghost use Rattle.bucket_model.specs.Rules.{onPingSent, onPong, onHeard};
-ghost use Rattle.bucket.specs.Values.{contents, Shows, Bounded};
-ghost use Rattle.bucket_lookup.specs.Found.{Ready, Within};
+ghost use Rattle.lists.specs.Lists.{select, any, empty};
+ghost use Rattle.bucket_model.specs.Rules.{onSweep, isOut, isOverdue, isAt, isVerified, isAwaited, onPingSent, onPong, onHeard};
+ghost use Rattle.bucket.specs.Values.{listed, Holds, contents, Shows, Bounded};
+ghost use Rattle.bucket_rules.specs.Sweep.{stays, promoteOne, promoteAll};
+ghost use lib.Dec.{leb};
+ghost use lib.ListN.{getD, length};
+ghost use Rattle.entry.specs.Layout.{noEntry};
+ghost use Rattle.bucket_rules.specs.Found.{Ready, found, inEntries, LooksUp, Within, EntryAt};
 ghost use Rattle.bucket_rules.specs.Changes.{putAt, tailAt, promoteAt, joinLine};
 use bucket::Bucket;
+use bucket::EntryList;
 use bucket::Position;
 use entry::Entry;
 use entry::MonotonicMillis;
+
+// Whether an entry stays in the sweep's removals, a replacement where `waiting`.
+fn stays(e: Entry, waiting: bool, clock: MonotonicMillis) -> bool
+    ensures { λ r. ⌜ r ≡ stays waiting (clock .0) e ⌝ }
+{
+    let ping = e.ping;
+    let proof = e.proof;
+    let alive = !bucket_entry::is_overdue(ping, clock);
+    if waiting {
+        return bucket_entry::both(alive, !bucket_entry::proof_expired(proof, clock));
+    }
+    alive
+}
+
+// The entries of a list that stay in the sweep's removals, in order.
+fn kept(l: EntryList, waiting: bool, clock: MonotonicMillis) -> EntryList
+    requires { ⌜ l .len ≤ 16 ⌝ }
+    ensures { λ r. ⌜ Holds r (select (stays waiting (clock .0)) (listed l)) ⌝ }
+{
+    let len = l.len;
+    let mut kept = l;
+    let mut n = 0;
+    let mut i = 0;
+    while i < len {
+        let e = l.items[i];
+        kept.items[n] = e;
+        n += count(stays(e, waiting, clock));
+        i += 1;
+    }
+    kept.len = n;
+    kept
+}
+
+fn count(b: bool) -> usize
+    ensures { λ r. ⌜ r ≡ cond b 1 0 ⌝ }
+{
+    if b { 1 } else { 0 }
+}
+
+// A replacement takes a free entry at the tail if it is proved, or stays in line.
+fn promote_one(b: Bucket, e: Entry) -> Bucket
+    requires { ⌜ (b .entries .len ≤ 16) × (b .replacements .len < 16) ⌝ }
+    ensures { λ r. ⌜ Shows r (promoteOne (contents b) e) ⌝ }
+{
+    let entries = b.entries;
+    let replacements = b.replacements;
+    let proof = e.proof;
+    let proved = bucket_entry::is_proved(proof);
+    let moves = bucket_entry::both(proved, entries.len < Bucket::ENTRIES);
+    if moves {
+        let entries = entries.push(e);
+        return Bucket {
+            entries,
+            replacements,
+        };
+    }
+    let replacements = replacements.push(e);
+    Bucket {
+        entries,
+        replacements,
+    }
+}
+
+fn promote_all(b: Bucket, line: EntryList) -> Bucket
+    requires { ⌜ (b .entries .len ≤ 16) × ((b .replacements .len ≡ 0) × (line .len ≤ 16)) ⌝ }
+    ensures { λ r. ⌜ Shows r (promoteAll (contents b) (listed line)) ⌝ }
+{
+    let len = line.len;
+    let mut after = b;
+    let mut i = 0;
+    while i < len {
+        let e = line.items[i];
+        after = promote_one(after, e);
+        i += 1;
+    }
+    after
+}
+
+// Sweep: nodes that did not answer in time go, then replacements with an expired proof; then proved replacements take
+// free entries at the tail in line order.
+pub fn sweep(b: Bucket, clock: MonotonicMillis) -> Bucket
+    requires { ⌜ Bounded b ⌝ }
+    ensures { λ r. ⌜ Shows r (onSweep (clock .0) (contents b)) ⌝ }
+{
+    let entries = b.entries;
+    let replacements = b.replacements;
+    let entries = kept(entries, false, clock);
+    let line = kept(replacements, true, clock);
+    let replacements = EntryList::empty();
+    let start = Bucket {
+        entries,
+        replacements,
+    };
+    promote_all(start, line)
+}
+
+// Where a node is held, with its entry there.
+pub struct Lookup {
+    pub position: Position,
+    pub entry: Entry,
+}
+
+fn entry_at(b: Bucket, at: Position) -> Entry
+    requires { ⌜ Bounded b × Within at (contents b) ⌝ }
+    ensures { λ r. ⌜ EntryAt at (contents b) r ⌝ }
+{
+    match at {
+        Position::Absent => Entry::empty(),
+        Position::InEntries(i) => {
+            let l = b.entries;
+            l.items[i]
+        }
+        Position::InReplacements(i) => {
+            let l = b.replacements;
+            l.items[i]
+        }
+    }
+}
+
+// The node with this key.
+pub fn look_up(b: Bucket, key: &[u8]) -> Lookup
+    requires { ⌜ Ready b ⌝ }
+    ensures { λ r. ⌜ LooksUp (now (key .entry)) (contents b) r ⌝ }
+{
+    let position = b.find(key);
+    let entry = entry_at(b, position);
+    Lookup { position, entry }
+}
+
+impl Lookup {
+    pub fn is_held(self) -> bool
+        ensures { λ r. ⌜ r ≡ not (empty (found self)) ⌝ }
+    {
+        let position = self.position;
+        match position {
+            Position::Absent => false,
+            Position::InEntries(_) => true,
+            Position::InReplacements(_) => true,
+        }
+    }
+
+    // 13
+    pub fn not_verified(self, address: &[u8], udp: u16, clock: MonotonicMillis) -> bool
+        ensures { λ r. ⌜ r ≡ not (any (isVerified (clock .0) (now (address .entry)) udp) (found self)) ⌝ }
+    {
+        let e = self.entry;
+        let held = self.is_held();
+        !bucket_entry::both(held, bucket_entry::is_verified(e, address, udp, clock))
+    }
+
+    // 14
+    pub fn not_awaited(self, hash: &[u8], address: &[u8], udp: u16) -> bool
+        ensures { λ r. ⌜ r ≡ not (any (isAwaited (now (hash .entry)) (now (address .entry)) udp) (found self)) ⌝ }
+    {
+        let e = self.entry;
+        let held = self.is_held();
+        !bucket_entry::both(held, bucket_entry::is_awaited(e, hash, address, udp))
+    }
+
+    // 15
+    pub fn is_late(self, clock: MonotonicMillis) -> bool
+        ensures { λ r. ⌜ r ≡ any (λ e. isOverdue (clock .0) (e .ping)) (found self) ⌝ }
+    {
+        let e = self.entry;
+        let ping = e.ping;
+        let held = self.is_held();
+        bucket_entry::both(held, bucket_entry::is_overdue(ping, clock))
+    }
+
+    // 16
+    pub fn held_elsewhere(self, address: &[u8], udp: u16) -> bool
+        ensures { λ r. ⌜ r ≡ any (λ e. not (isAt (now (address .entry)) udp e)) (found self) ⌝ }
+    {
+        let e = self.entry;
+        let held = self.is_held();
+        bucket_entry::both(held, !bucket_entry::is_at(e, address, udp))
+    }
+
+    // 17
+    pub fn ping_out(self) -> bool
+        ensures { λ r. ⌜ r ≡ any (λ e. isOut (e .ping)) (found self) ⌝ }
+    {
+        let e = self.entry;
+        let ping = e.ping;
+        let held = self.is_held();
+        bucket_entry::both(held, bucket_entry::is_out(ping))
+    }
+
+    // 18, with the number of replacements
+    pub fn no_room(self, replacements: usize) -> bool
+        ensures { λ r. ⌜ r ≡ (empty (found self) && leb 4 replacements) ⌝ }
+    {
+        let held = self.is_held();
+        bucket_entry::both(!held, Bucket::REPLACEMENTS <= replacements)
+    }
+
+    // Whether the node is an entry already.
+    pub fn has_entry(self) -> bool
+        ensures { λ r. ⌜ r ≡ inEntries (self .position) ⌝ }
+    {
+        let position = self.position;
+        match position {
+            Position::Absent => false,
+            Position::InEntries(_) => true,
+            Position::InReplacements(_) => false,
+        }
+    }
+
+    // Whether a ping is due to the sender of a ping.
+    pub fn ping_due(self, address: &[u8], udp: u16, clock: MonotonicMillis) -> bool
+        ensures { λ r. ⌜ r ≡ (empty (found self) || any (λ e. isAt (now (address .entry)) udp e && (not (isVerified (clock .0) (now (address .entry)) udp e) && not (isOut (e .ping)))) (found self)) ⌝ }
+    {
+        let e = self.entry;
+        let ping = e.ping;
+        let held = self.is_held();
+        if !held {
+            return true;
+        }
+        let verified = bucket_entry::is_verified(e, address, udp, clock);
+        let open = bucket_entry::both(!verified, !bucket_entry::is_out(ping));
+        bucket_entry::both(bucket_entry::is_at(e, address, udp), open)
+    }
+}
+
+// The entry at the head.
+pub fn head(b: Bucket) -> Entry
+    requires { ⌜ (0 < b .entries .len) × (b .entries .len ≤ 16) ⌝ }
+    ensures { λ r. ⌜ r ≡ getD (contents b .entries) 0 noEntry ⌝ }
+{
+    let l = b.entries;
+    l.items[0]
+}
 
 fn put_at(b: Bucket, at: Position, e: Entry) -> Bucket
     requires { ⌜ Bounded b × Within at (contents b) ⌝ }
@@ -118,16 +356,16 @@ pub fn ping_sent(
     requires { ⌜ Ready b × ((length (now key) ≡ 64) × ((length (now address) ≤ 16) × (length (now hash) ≡ 32))) ⌝ }
     ensures { λ r. ⌜ Shows r (onPingSent (clock .0) (now (key .entry)) (now (address .entry)) udp tcp (now (hash .entry)) (contents b)) ⌝ }
 {
-    let l = bucket_lookup::look_up(b, key);
+    let l = look_up(b, key);
     let held = l.is_held();
     if held {
         let e = l.entry;
         let at = l.position;
-        return put_at(b, at, entry_rules::pinged(e, hash, clock));
+        return put_at(b, at, bucket_entry::pinged(e, hash, clock));
     }
     join_line(
         b,
-        entry_rules::new_entry(key, address, udp, tcp, hash, clock),
+        bucket_entry::new_entry(key, address, udp, tcp, hash, clock),
     )
 }
 
@@ -136,10 +374,10 @@ pub fn pong(b: Bucket, key: &[u8], clock: MonotonicMillis) -> Bucket
     requires { ⌜ Ready b ⌝ }
     ensures { λ r. ⌜ Shows r (onPong (clock .0) (now (key .entry)) (contents b)) ⌝ }
 {
-    let l = bucket_lookup::look_up(b, key);
+    let l = look_up(b, key);
     let e = l.entry;
     let at = l.position;
-    promote_at(b, at, entry_rules::ponged(e, clock))
+    promote_at(b, at, bucket_entry::ponged(e, clock))
 }
 
 // Another packet of a verified node: an entry goes to the tail, a replacement keeps its place in line.
@@ -147,8 +385,8 @@ pub fn heard(b: Bucket, key: &[u8], clock: MonotonicMillis) -> Bucket
     requires { ⌜ Ready b ⌝ }
     ensures { λ r. ⌜ Shows r (onHeard (clock .0) (now (key .entry)) (contents b)) ⌝ }
 {
-    let l = bucket_lookup::look_up(b, key);
+    let l = look_up(b, key);
     let e = l.entry;
     let at = l.position;
-    tail_at(b, at, entry_rules::heard(e, clock))
+    tail_at(b, at, bucket_entry::heard(e, clock))
 }

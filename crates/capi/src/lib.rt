@@ -4,26 +4,26 @@ ghost use mathlib.Core.Path.{_≡_};
 ghost use mathlib.Core.Bool.{true};
 ghost use lib.ListN.{length};
 ghost use Rattle.keccak.specs.Sponge as sponge;
-ghost use Rattle.history.specs.Model as model;
-ghost use Rattle.calls_model.specs.Calls.{answerOn, bytesAfter};
-ghost use Rattle.calls_model.specs.Reading.{reading};
-ghost use Rattle.datagram_call.specs.Received.{received};
-ghost use Rattle.span.specs.Parts as span;
-ghost use Rattle.spans.specs.Spans as spans;
-ghost use Rattle.wire.specs.Datagram.{packetIn};
+ghost use Rattle.call_history.specs.Model as model;
+ghost use Rattle.call_model.specs.Calls.{answerOn, bytesAfter};
+ghost use Rattle.call_model.specs.Reading.{reading};
+ghost use Rattle.call_datagram.specs.Received.{received};
+ghost use Rattle.packet_span.specs.Parts as span;
+ghost use Rattle.packet_fields.specs.Spans as spans;
+ghost use Rattle.packet_datagram.specs.Datagram.{packetIn};
 ghost use Rattle.written.specs.Written.{written, writtenIn};
-ghost use Rattle.packet_parts.specs.Writers.{canPing, pingBody, canPong, pongBody, canFindNode, findNodeBody, neighborsBody, enrRequestBody, canEnrResponse, enrResponseBody};
+ghost use Rattle.packet_bodies.specs.Writers.{canPing, pingBody, canPong, pongBody, canFindNode, findNodeBody, neighborsBody, enrRequestBody, canEnrResponse, enrResponseBody};
 ghost use Rattle.packet_join.specs.Join as joining;
 ghost use Rattle.table.specs.Init.{initAnswer, initTable};
 ghost use Rattle.counters.specs.Counters.{raised, cleared};
 ghost use Rattle.closest_nodes.specs.Closest.{listed, listAfter};
-ghost use Rattle.answer_code.specs.Codes.{numberIn, receivedCode, listedCode, writtenCode, seqOf};
-ghost use Rattle.flat_packet.specs.Fields.{readNumber, fieldsAfter, nodeNumbers};
-ghost use Rattle.bucket_head.specs.Head.{headNumber, headOn, unlessRefused};
-ghost use Rattle.packed_nodes.specs.Packed.{packedList, canPacked};
+ghost use Rattle.capi_codes.specs.Codes.{numberIn, receivedCode, listedCode, writtenCode, seqOf};
+ghost use Rattle.capi_packet.specs.Fields.{readNumber, fieldsAfter, nodeNumbers};
+ghost use Rattle.capi_head.specs.Head.{headNumber, headOn, unlessRefused};
+ghost use Rattle.capi_nodes.specs.Packed.{packedList, canPacked};
 use counters::Counters;
 use entry::Node;
-use span::Span;
+use packet_span::Span;
 
 // ---- the table's calls
 
@@ -54,8 +54,8 @@ pub extern "C" fn coghammer_datagram(
     ensures { λ r. ⌜ now (table .exit) ≡ bytesAfter reading (now (table .entry)) (model.datagram clock unix (now (address .entry)) port (now (signer .entry)) (now (datagram .entry))) ⌝ }
     ensures { λ r. ⌜ now (counters .exit) ≡ raised (now (counters .entry)) (numberIn r) ⌝ }
 {
-    let answer = plain_calls::datagram_on(table, clock, unix, address, port, signer, datagram);
-    counters::count(counters, answer_code::number_in(answer));
+    let answer = capi_calls::datagram_on(table, clock, unix, address, port, signer, datagram);
+    counters::count(counters, capi_codes::number_in(answer));
     answer
 }
 
@@ -75,7 +75,7 @@ pub extern "C" fn coghammer_ping_sent(
     ensures { λ r. ⌜ now (table .exit) ≡ bytesAfter reading (now (table .entry)) (model.pingSent clock (now (key .entry)) (now (address .entry)) udp tcp (now (hash .entry))) ⌝ }
     ensures { λ r. ⌜ now (counters .exit) ≡ raised (now (counters .entry)) r ⌝ }
 {
-    let answer = plain_calls::ping_sent_on(table, clock, key, address, udp, tcp, hash);
+    let answer = capi_calls::ping_sent_on(table, clock, key, address, udp, tcp, hash);
     counters::count(counters, answer);
     answer
 }
@@ -88,7 +88,7 @@ pub extern "C" fn coghammer_sweep(counters: &mut Counters, table: &mut [u8], clo
     ensures { λ r. ⌜ now (table .exit) ≡ bytesAfter reading (now (table .entry)) (model.sweep clock) ⌝ }
     ensures { λ r. ⌜ now (counters .exit) ≡ raised (now (counters .entry)) r ⌝ }
 {
-    let answer = plain_calls::sweep_on(table, clock);
+    let answer = capi_calls::sweep_on(table, clock);
     counters::count(counters, answer);
     answer
 }
@@ -108,7 +108,7 @@ pub extern "C" fn coghammer_closest(list: &mut [Node], table: &[u8], target: &[u
         × (now (list .exit) ≡ listAfter (now (table .entry)) (now (target .entry)) (now (list .entry))) ⌝ }
 {
     let answer = discv4::closest(list, table, target);
-    answer_code::listed_code(answer)
+    capi_codes::listed_code(answer)
 }
 
 // ---- the head of a key's bucket
@@ -128,7 +128,7 @@ pub extern "C" fn coghammer_head(
     ensures { λ r. ⌜ now (address .exit) ≡ unlessRefused r (headOn (now (table .entry)) (now (key .entry)) .address) (now (address .entry)) ⌝ }
     ensures { λ r. ⌜ now (numbers .exit) ≡ unlessRefused r (headOn (now (table .entry)) (now (key .entry)) .numbers) (now (numbers .entry)) ⌝ }
 {
-    let head = bucket_head::head_on(table, key);
+    let head = capi_head::head_on(table, key);
     if head.number != 0 {
         return head.number;
     }
@@ -143,7 +143,7 @@ pub extern "C" fn coghammer_head(
 
 // ---- fields of a datagram
 
-// The fields of a datagram's packet, in the places that flat_packet/specs/Fields.antt names; a byte string is its start in the datagram and its length.
+// The fields of a datagram's packet, in the places that capi_packet/specs/Fields.antt names; a byte string is its start in the datagram and its length.
 // The answer number: 0, or 8, 9 or 10 and nothing is written. Only the type and the data are looked at.
 #[no_mangle]
 pub extern "C" fn coghammer_packet(datagram: &[u8], fields: &mut [u64; 20]) -> u8
@@ -151,7 +151,7 @@ pub extern "C" fn coghammer_packet(datagram: &[u8], fields: &mut [u64; 20]) -> u
     ensures { λ _. ⌜ now (fields .exit) ≡ fieldsAfter (packetIn (now (datagram .entry))) (now (fields .entry)) ⌝ }
 {
     let old = *fields;
-    let read = flat_packet::read_fields(datagram, old);
+    let read = capi_packet::read_fields(datagram, old);
     if read.number != 0 {
         return read.number;
     }
@@ -184,7 +184,7 @@ pub extern "C" fn coghammer_node_at(
     ensures { λ _. ⌜ now (address .exit) ≡ spans.nodeAt n (span.bytesOf (now (datagram .entry)) (record { start = start; len = len })) .endpoint .address ⌝ }
     ensures { λ _. ⌜ now (numbers .exit) ≡ nodeNumbers (spans.nodeAt n (span.bytesOf (now (datagram .entry)) (record { start = start; len = len }))) ⌝ }
 {
-    let node = flat_packet::node_fields(datagram, start, len, n);
+    let node = capi_packet::node_fields(datagram, start, len, n);
     let held_key = node.key;
     let held_address = node.address;
     let held_numbers = node.numbers;
@@ -210,8 +210,8 @@ pub extern "C" fn coghammer_write_ping(
     ensures answer { λ r. ⌜ r ≡ writtenCode (written (canPing (now (from .entry)) (now (to .entry))) (pingBody (now (from .entry)) «from_udp» «from_tcp» (now (to .entry)) «to_udp» expiration (seqOf «has_enr_seq» «enr_seq»)) (now (buf .entry))) ⌝ }
     ensures bytes { λ _. ⌜ now (buf .exit) ≡ writtenIn (canPing (now (from .entry)) (now (to .entry))) (pingBody (now (from .entry)) «from_udp» «from_tcp» (now (to .entry)) «to_udp» expiration (seqOf «has_enr_seq» «enr_seq»)) (now (buf .entry)) ⌝ }
 {
-    let seq = answer_code::enr_seq_of(has_enr_seq, enr_seq);
-    answer_code::written_code(discv4::write_ping(
+    let seq = capi_codes::enr_seq_of(has_enr_seq, enr_seq);
+    capi_codes::written_code(discv4::write_ping(
         buf,
         from,
         from_udp,
@@ -236,8 +236,8 @@ pub extern "C" fn coghammer_write_pong(
     ensures answer { λ r. ⌜ r ≡ writtenCode (written (canPong (now (to .entry)) (now («ping_hash» .entry))) (pongBody (now (to .entry)) «to_udp» (now («ping_hash» .entry)) expiration (seqOf «has_enr_seq» «enr_seq»)) (now (buf .entry))) ⌝ }
     ensures bytes { λ _. ⌜ now (buf .exit) ≡ writtenIn (canPong (now (to .entry)) (now («ping_hash» .entry))) (pongBody (now (to .entry)) «to_udp» (now («ping_hash» .entry)) expiration (seqOf «has_enr_seq» «enr_seq»)) (now (buf .entry)) ⌝ }
 {
-    let seq = answer_code::enr_seq_of(has_enr_seq, enr_seq);
-    answer_code::written_code(discv4::write_pong(buf, to, to_udp, ping_hash, expiration, seq))
+    let seq = capi_codes::enr_seq_of(has_enr_seq, enr_seq);
+    capi_codes::written_code(discv4::write_pong(buf, to, to_udp, ping_hash, expiration, seq))
 }
 
 #[no_mangle]
@@ -245,7 +245,7 @@ pub extern "C" fn coghammer_write_find_node(buf: &mut [u8], target: &[u8], expir
     ensures answer { λ r. ⌜ r ≡ writtenCode (written (canFindNode (now (target .entry))) (findNodeBody (now (target .entry)) expiration) (now (buf .entry))) ⌝ }
     ensures bytes { λ _. ⌜ now (buf .exit) ≡ writtenIn (canFindNode (now (target .entry))) (findNodeBody (now (target .entry)) expiration) (now (buf .entry)) ⌝ }
 {
-    answer_code::written_code(discv4::write_find_node(buf, target, expiration))
+    capi_codes::written_code(discv4::write_find_node(buf, target, expiration))
 }
 
 // The nodes are packed in 85 bytes each: address length 1, address 16, UDP port 2, TCP port 2, key 64; numbers big-endian. Bytes that are
@@ -255,14 +255,10 @@ pub extern "C" fn coghammer_write_neighbors(buf: &mut [u8], nodes: &[u8], expira
     ensures answer { λ r. ⌜ r ≡ writtenCode (written (canPacked (now (nodes .entry))) (neighborsBody (packedList (now (nodes .entry))) expiration) (now (buf .entry))) ⌝ }
     ensures bytes { λ _. ⌜ now (buf .exit) ≡ writtenIn (canPacked (now (nodes .entry))) (neighborsBody (packedList (now (nodes .entry))) expiration) (now (buf .entry)) ⌝ }
 {
-    if !packed_nodes::is_packed(nodes) {
-        return answer_code::code(20, 0);
+    if !capi_nodes::is_packed(nodes) {
+        return capi_codes::code(20, 0);
     }
-    answer_code::written_code(discv4::write_neighbors(
-        buf,
-        packed_nodes::unpacked(nodes),
-        expiration,
-    ))
+    capi_codes::written_code(discv4::write_neighbors(buf, capi_nodes::unpacked(nodes), expiration))
 }
 
 #[no_mangle]
@@ -270,7 +266,7 @@ pub extern "C" fn coghammer_write_enr_request(buf: &mut [u8], expiration: u64) -
     ensures answer { λ r. ⌜ r ≡ writtenCode (written true (enrRequestBody expiration) (now (buf .entry))) ⌝ }
     ensures bytes { λ _. ⌜ now (buf .exit) ≡ writtenIn true (enrRequestBody expiration) (now (buf .entry)) ⌝ }
 {
-    answer_code::written_code(discv4::write_enr_request(buf, expiration))
+    capi_codes::written_code(discv4::write_enr_request(buf, expiration))
 }
 
 #[no_mangle]
@@ -282,7 +278,7 @@ pub extern "C" fn coghammer_write_enr_response(
     ensures answer { λ r. ⌜ r ≡ writtenCode (written (canEnrResponse (now («request_hash» .entry)) (now («record» .entry))) (enrResponseBody (now («request_hash» .entry)) (now («record» .entry))) (now (buf .entry))) ⌝ }
     ensures bytes { λ _. ⌜ now (buf .exit) ≡ writtenIn (canEnrResponse (now («request_hash» .entry)) (now («record» .entry))) (enrResponseBody (now («request_hash» .entry)) (now («record» .entry))) (now (buf .entry)) ⌝ }
 {
-    answer_code::written_code(discv4::write_enr_response(buf, request_hash, record))
+    capi_codes::written_code(discv4::write_enr_response(buf, request_hash, record))
 }
 
 // Writes the datagram of a signature and a body.
@@ -291,7 +287,7 @@ pub extern "C" fn coghammer_join(buf: &mut [u8], signature: &[u8], body: &[u8]) 
     ensures answer { λ r. ⌜ r ≡ writtenCode (written (joining.canJoin (now (signature .entry)) (now (body .entry))) (joining.datagram (now (signature .entry)) (now (body .entry))) (now (buf .entry))) ⌝ }
     ensures bytes { λ _. ⌜ now (buf .exit) ≡ writtenIn (joining.canJoin (now (signature .entry)) (now (body .entry))) (joining.datagram (now (signature .entry)) (now (body .entry))) (now (buf .entry)) ⌝ }
 {
-    answer_code::written_code(discv4::join(buf, signature, body))
+    capi_codes::written_code(discv4::join(buf, signature, body))
 }
 
 // The Keccak-256 of a message.

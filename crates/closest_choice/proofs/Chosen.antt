@@ -19,14 +19,14 @@ use Rattle.bucket_model.specs.Contents.{entriesAt, decodeBucket}
 use Rattle.bucket_model.proofs.ByteForm.{entriesAt-part, entry-at}
 use Rattle.table_model.specs.Layout.{offsetOf, bucketAt, bucketsOf}
 use Rattle.table_model.specs.Sound.{tableSound}
-use Rattle.history.specs.Model.{closest}
-use Rattle.calls_model.specs.Calls.{answerOn}
-use Rattle.nearest.specs.declared.Near.{Near}
-use Rattle.nearest.specs.declared.Nearest.{Nearest}
-use Rattle.nearest.specs.Nearest.{holding}
-use Rattle.table_closest.specs.declared.Chosen.{Chosen}
-use Rattle.table_closest.specs.Closest.{closestIn}
-use Rattle.table_closest.specs.Closest as nearest
+use Rattle.call_history.specs.Model.{closest}
+use Rattle.call_model.specs.Calls.{answerOn}
+use Rattle.closest_nearest.specs.declared.Near.{Near}
+use Rattle.closest_nearest.specs.declared.Nearest.{Nearest}
+use Rattle.closest_nearest.specs.Nearest.{holding}
+use Rattle.closest_table.specs.declared.Chosen.{Chosen}
+use Rattle.closest_table.specs.Closest.{closestIn}
+use Rattle.closest_table.specs.Closest as nearest
 use Rattle.closest_choice.specs.Closest.{choiceBy, chosen, isThere, nodeIn}
 use Rattle.closest_choice.specs.declared.Choice.{Choice}
 

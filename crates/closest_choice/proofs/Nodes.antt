@@ -23,10 +23,10 @@ use Rattle.table_model.specs.Sound.{bucketSound, bucketsSound, tableSound}
 use Rattle.table_model.proofs.Header.{HeaderSound, header-sound}
 use Rattle.table_model.proofs.Table.{count-read, bucket-read}
 use Rattle.table_model.proofs.Sound.{all-below, counts-at}
-use Rattle.nearest.specs.declared.Near.{Near}
-use Rattle.nearest.specs.Sort.{sortBy}
-use Rattle.table_closest.specs.Closest as nearest
-use Rattle.table_closest.proofs.Nearest.{entryOf, Names, closest-name, closest-entries}
+use Rattle.closest_nearest.specs.declared.Near.{Near}
+use Rattle.closest_nearest.specs.Sort.{sortBy}
+use Rattle.closest_table.specs.Closest as nearest
+use Rattle.closest_table.proofs.Nearest.{entryOf, Names, closest-name, closest-entries}
 use Rattle.closest_choice.specs.Closest.{isThere, nodeIn}
 
 map-through : {A B C : Type 0} (f : A → C) (g : B → C) (h : A → B) (l : List A) → All (λ a. f a ≡ g (h a)) l → map f l ≡ map g (map h l)

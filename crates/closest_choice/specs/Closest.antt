@@ -11,12 +11,12 @@ use Rattle.entry.specs.declared.Entry.{Entry}
 use Rattle.entry.specs.Layout.{noEntry}
 use Rattle.entry.specs.Nodes.{noNode, nodeOf}
 use Rattle.table_model.specs.Layout.{offsetOf, bucketAt, bucketsOf}
-use Rattle.history.specs.Model.{closest}
-use Rattle.calls_model.specs.Reading.{reading}
-use Rattle.calls_model.specs.Calls.{answerOn}
-use Rattle.nearest.specs.declared.Near.{Near}
-use Rattle.nearest.specs.Nearest.{holding}
-use Rattle.table_closest.specs.Closest as nearest
+use Rattle.call_history.specs.Model.{closest}
+use Rattle.call_model.specs.Reading.{reading}
+use Rattle.call_model.specs.Calls.{answerOn}
+use Rattle.closest_nearest.specs.declared.Near.{Near}
+use Rattle.closest_nearest.specs.Nearest.{holding}
+use Rattle.closest_table.specs.Closest as nearest
 use Rattle.closest_choice.specs.declared.Choice.{Choice}
 
 -- nothing is chosen where the call is refused

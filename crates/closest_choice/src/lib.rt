@@ -1,10 +1,10 @@
 // What a closest call chooses of a table in lent bytes, for any bytes.
 ghost use mathlib.Core.Path.{_≡_};
 ghost use mathlib.Core.List.{[]};
-ghost use Rattle.nearest.specs.Nearest.{holding};
+ghost use Rattle.closest_nearest.specs.Nearest.{holding};
 ghost use Rattle.closest_choice.specs.Closest.{chosen, nodeIn};
+use closest_nearest::Nearest;
 use entry::Node;
-use nearest::Nearest;
 
 // The entries nearest to a target, nearest first, or the answer number and none of them.
 pub struct Choice {
@@ -24,7 +24,7 @@ pub fn closest_on(table: &[u8], target: &[u8], room: usize) -> Choice
     ensures { λ r. ⌜ r ≡ chosen (now (table .entry)) (now (target .entry)) room ⌝ }
 {
     let hash = keccak::keccak256(target);
-    let chosen = table_closest::closest(table, hash);
+    let chosen = closest_table::closest(table, hash);
     if !chosen.sound {
         return none_chosen(1);
     }

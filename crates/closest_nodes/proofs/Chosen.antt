@@ -13,16 +13,16 @@ use Rattle.keccak.specs.Sponge.{keccak256}
 use Rattle.entry.specs.declared.Node.{Node}
 use Rattle.table_model.specs.Layout.{bucketsOf}
 use Rattle.table_model.specs.Sound.{tableSound}
-use Rattle.nearest.specs.declared.Near.{Near}
-use Rattle.nearest.specs.Sort.{sortBy}
-use Rattle.nearest.specs.Nearest.{farness}
-use Rattle.nearest.proofs.Sort.{length-sort}
-use Rattle.nearest.proofs.Held.{held-holding}
-use Rattle.table_closest.specs.Closest.{candidatesFrom}
-use Rattle.table_closest.specs.Closest as nearest
-use Rattle.history.specs.Model.{closest}
-use Rattle.calls_model.specs.Reading.{reading}
-use Rattle.calls_model.specs.Calls.{refusalsOn, answerOn}
+use Rattle.closest_nearest.specs.declared.Near.{Near}
+use Rattle.closest_nearest.specs.Sort.{sortBy}
+use Rattle.closest_nearest.specs.Nearest.{farness}
+use Rattle.closest_nearest.proofs.Sort.{length-sort}
+use Rattle.closest_nearest.proofs.Held.{held-holding}
+use Rattle.closest_table.specs.Closest.{candidatesFrom}
+use Rattle.closest_table.specs.Closest as nearest
+use Rattle.call_history.specs.Model.{closest}
+use Rattle.call_model.specs.Reading.{reading}
+use Rattle.call_model.specs.Calls.{refusalsOn, answerOn}
 use Rattle.closest_choice.specs.declared.Choice.{Choice}
 use Rattle.entry.specs.Nodes.{nodeOf}
 use Rattle.closest_choice.specs.Closest.{chosen}

@@ -10,11 +10,11 @@ use Rattle.distance.specs.Distance.{distance}
 use Rattle.entry.specs.declared.Node.{Node}
 use Rattle.entry.specs.declared.Entry.{Entry}
 use Rattle.table_model.specs.Layout.{bucketsOf}
-use Rattle.nearest.specs.declared.Near.{Near}
-use Rattle.nearest.specs.Sort.{sortBy}
-use Rattle.history.specs.Model.{closest}
-use Rattle.calls_model.specs.Reading.{reading}
-use Rattle.calls_model.specs.Calls.{answerOn}
+use Rattle.closest_nearest.specs.declared.Near.{Near}
+use Rattle.closest_nearest.specs.Sort.{sortBy}
+use Rattle.call_history.specs.Model.{closest}
+use Rattle.call_model.specs.Reading.{reading}
+use Rattle.call_model.specs.Calls.{answerOn}
 use Rattle.closest_choice.specs.declared.Choice.{Choice}
 use Rattle.entry.specs.Nodes.{nodeOf}
 use Rattle.closest_choice.specs.Closest.{nodeIn}

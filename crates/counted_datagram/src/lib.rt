@@ -1,14 +1,14 @@
 // The datagram call of the public library: it works on the lent table, counts its answer number in the lent counters, and answers.
 // tools/walks.sh prints its proof and that of its by-value form.
 ghost use mathlib.Core.Path.{_≡_};
-ghost use Rattle.history.specs.Model as model;
-ghost use Rattle.calls_model.specs.Calls.{bytesAfter};
-ghost use Rattle.calls_model.specs.Reading.{reading};
-ghost use Rattle.datagram_answer.specs.Answer.{numberOf};
-ghost use Rattle.datagram_call.specs.Received.{received};
+ghost use Rattle.call_history.specs.Model as model;
+ghost use Rattle.call_model.specs.Calls.{bytesAfter};
+ghost use Rattle.call_model.specs.Reading.{reading};
+ghost use Rattle.call_answer.specs.Answer.{numberOf};
+ghost use Rattle.call_datagram.specs.Received.{received};
 ghost use Rattle.counters.specs.Counters.{raised};
+use call_answer::Received;
 use counters::Counters;
-use datagram_answer::Received;
 use entry::MonotonicMillis;
 use entry::UnixSeconds;
 
@@ -27,8 +27,8 @@ pub fn datagram(
     ensures { λ r. ⌜ now (table .exit) ≡ bytesAfter reading (now (table .entry)) (model.datagram (clock .0) (unix .0) (now (address .entry)) port (now (signer .entry)) (now (datagram .entry))) ⌝ }
     ensures { λ r. ⌜ now (counters .exit) ≡ raised (now (counters .entry)) (numberOf r) ⌝ }
 {
-    let answer = datagram_call::datagram_on(table, clock, unix, address, port, signer, datagram);
-    counters::count(counters, datagram_answer::number(answer));
+    let answer = call_datagram::datagram_on(table, clock, unix, address, port, signer, datagram);
+    counters::count(counters, call_answer::number(answer));
     answer
 }
 

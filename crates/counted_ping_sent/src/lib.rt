@@ -1,9 +1,9 @@
 // The ping-sent call of the public library: it works on the lent table, counts its answer number in the lent counters, and answers.
 // tools/walks.sh prints its proof and that of its by-value form.
 ghost use mathlib.Core.Path.{_≡_};
-ghost use Rattle.history.specs.Model as model;
-ghost use Rattle.calls_model.specs.Calls.{answerOn, bytesAfter};
-ghost use Rattle.calls_model.specs.Reading.{reading};
+ghost use Rattle.call_history.specs.Model as model;
+ghost use Rattle.call_model.specs.Calls.{answerOn, bytesAfter};
+ghost use Rattle.call_model.specs.Reading.{reading};
 ghost use Rattle.counters.specs.Counters.{raised};
 use counters::CountedNumber;
 use counters::Counters;
@@ -24,7 +24,7 @@ pub fn ping_sent(
     ensures { λ r. ⌜ now (table .exit) ≡ bytesAfter reading (now (table .entry)) (model.pingSent (clock .0) (now (key .entry)) (now (address .entry)) udp tcp (now (hash .entry))) ⌝ }
     ensures { λ r. ⌜ now (counters .exit) ≡ raised (now (counters .entry)) r ⌝ }
 {
-    let answer = ping_sent_call::ping_sent_on(table, clock, key, address, udp, tcp, hash);
+    let answer = call_ping_sent::ping_sent_on(table, clock, key, address, udp, tcp, hash);
     counters::count(counters, answer);
     answer
 }

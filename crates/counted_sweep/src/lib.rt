@@ -1,9 +1,9 @@
 // The sweep call of the public library: it works on the lent table, counts its answer number in the lent counters, and answers.
 // tools/walks.sh prints its proof and that of its by-value form.
 ghost use mathlib.Core.Path.{_≡_};
-ghost use Rattle.history.specs.Model as model;
-ghost use Rattle.calls_model.specs.Calls.{answerOn, bytesAfter};
-ghost use Rattle.calls_model.specs.Reading.{reading};
+ghost use Rattle.call_history.specs.Model as model;
+ghost use Rattle.call_model.specs.Calls.{answerOn, bytesAfter};
+ghost use Rattle.call_model.specs.Reading.{reading};
 ghost use Rattle.counters.specs.Counters.{raised};
 use counters::CountedNumber;
 use counters::Counters;
@@ -16,7 +16,7 @@ pub fn sweep(counters: &mut Counters, table: &mut [u8], clock: MonotonicMillis) 
     ensures { λ r. ⌜ now (table .exit) ≡ bytesAfter reading (now (table .entry)) (model.sweep (clock .0)) ⌝ }
     ensures { λ r. ⌜ now (counters .exit) ≡ raised (now (counters .entry)) r ⌝ }
 {
-    let answer = sweep_call::sweep_on(table, clock);
+    let answer = call_sweep::sweep_on(table, clock);
     counters::count(counters, answer);
     answer
 }

@@ -1,4 +1,4 @@
--- Demand 3 of the public calls: their definitions are those of crate `calls_model`, of which it is proved, and the counters count their answers.
+-- Demand 3 of the public calls: their definitions are those of crate `call_model`, of which it is proved, and the counters count their answers.
 -- Assumes nothing.
 use Prim.Native.Nat.{ℕ, _<_, _≤_}
 use mathlib.Core.Path.{_≡_, refl, sym, ap, _∙_}
@@ -14,21 +14,21 @@ use Rattle.lists.proofs.Laws.{and-left, and-right}
 use Rattle.table_model.specs.Layout.{offsetOf}
 use Rattle.keccak.specs.Sponge.{keccak256}
 use Rattle.table.specs.Init.{initAnswer, initTable, freshTable, roomFor}
-use Rattle.history.specs.Model.{Env, Call, datagram, pingSent, sweep, closest}
-use Rattle.history.specs.Keccak.{withKeccak}
-use Rattle.history.specs.Chain.{answersOn, bytesAfterAll}
-use Rattle.calls_model.specs.Calls.{answerOn, bytesAfter}
-use Rattle.calls_model.specs.Reading.{reading}
-use Rattle.calls_model.proofs.Demand3.{demand3-of-calls}
-use Rattle.calls_model.proofs.AnyBytes.{on-any-bytes}
-use Rattle.datagram_call.proofs.Answered.{answer-number}
+use Rattle.call_history.specs.Model.{Env, Call, datagram, pingSent, sweep, closest}
+use Rattle.call_history.specs.Keccak.{withKeccak}
+use Rattle.call_history.specs.Chain.{answersOn, bytesAfterAll}
+use Rattle.call_model.specs.Calls.{answerOn, bytesAfter}
+use Rattle.call_model.specs.Reading.{reading}
+use Rattle.call_model.proofs.Demand3.{demand3-of-calls}
+use Rattle.call_model.proofs.AnyBytes.{on-any-bytes}
+use Rattle.call_datagram.proofs.Answered.{answer-number}
 use Rattle.counters.specs.declared.Counters.{Counters}
 use Rattle.counters.specs.Counters.{raised, cleared, countOf}
 use Rattle.counters.specs.History.{counted, timesOf, capped}
 use Rattle.counters.proofs.History.{counts-are-history}
 use Rattle.discv4.specs.Demand3.{answerNumber, tableAfter, isCounted, countersAfter, countersAfterAll, countedAnswers, RunKeeps, LibraryKeeps}
 
--- ---- the calls' definitions are those of crate calls_model
+-- ---- the calls' definitions are those of crate call_model
 
 number-same : (s : Bytes) (c : Call) → answerNumber s c ≡ answerOn reading s c
 number-same s (datagram now unix address udp key bytes) = answer-number s now (record { 0 = unix }) address udp key bytes

@@ -8,15 +8,15 @@ use Rattle.octets.specs.Octets.{Bytes}
 use Rattle.lists.specs.Lists.{All}
 use Rattle.keccak.specs.Sponge.{keccak256}
 use Rattle.table.specs.Init.{initAnswer, initTable}
-use Rattle.history.specs.Model.{Env, Call, datagram, pingSent, sweep, closest, fresh, answers, run}
-use Rattle.history.specs.Keccak.{withKeccak}
-use Rattle.history.specs.Chain.{IsCall, answersOn, bytesAfterAll}
-use Rattle.history.specs.Demand3.{Demand3}
-use Rattle.calls_model.specs.Calls.{answerOn, bytesAfter}
-use Rattle.calls_model.specs.Reading.{reading}
-use Rattle.calls_model.specs.Demand3.{encode}
-use Rattle.datagram_answer.specs.Answer.{numberOf}
-use Rattle.datagram_call.specs.Received.{received}
+use Rattle.call_history.specs.Model.{Env, Call, datagram, pingSent, sweep, closest, fresh, answers, run}
+use Rattle.call_history.specs.Keccak.{withKeccak}
+use Rattle.call_history.specs.Chain.{IsCall, answersOn, bytesAfterAll}
+use Rattle.call_history.specs.Demand3.{Demand3}
+use Rattle.call_model.specs.Calls.{answerOn, bytesAfter}
+use Rattle.call_model.specs.Reading.{reading}
+use Rattle.call_model.specs.Demand3.{encode}
+use Rattle.call_answer.specs.Answer.{numberOf}
+use Rattle.call_datagram.specs.Received.{received}
 use Rattle.counters.specs.declared.Counters.{Counters}
 use Rattle.counters.specs.Counters.{raised, cleared, countOf}
 use Rattle.counters.specs.History.{timesOf, capped}

@@ -3,18 +3,18 @@
 // ---- the table's calls
 // `init` makes lent bytes a fresh table. `datagram`, `ping_sent` and `sweep` count their answers in lent counters, `closest` fills a lent
 // list. Callers inside the repository have forms that take counters or list by value: crates counted_datagram,
-// counted_ping_sent, counted_sweep and closest_call.
+// counted_ping_sent, counted_sweep and closest.
 
-pub use closest_call::closest;
+pub use closest::closest;
 pub use closest_nodes::Listed;
 pub use counted_datagram::datagram;
 pub use counted_ping_sent::ping_sent;
 pub use counted_sweep::sweep;
 pub use table::init;
 // the answers
-pub use datagram_answer::Outcome;
-pub use datagram_answer::Received;
-pub use datagram_answer::Standing;
+pub use call_answer::Outcome;
+pub use call_answer::Received;
+pub use call_answer::Standing;
 
 // ---- counters
 pub use counters::Counters;
@@ -23,15 +23,15 @@ pub use counters::count_of;
 
 // ---- packets written
 // The six bodies, and the datagram of a signature and a body; the host signs the Keccak-256 of a body.
-pub use enr_writer::write_enr_request;
-pub use enr_writer::write_enr_response;
 pub use keccak::keccak256;
-pub use node_writer::write_find_node;
-pub use node_writer::write_neighbors;
+pub use packet_bodies::NodeList;
 pub use packet_join::join;
-pub use packet_parts::NodeList;
-pub use ping_writer::write_ping;
-pub use pong_writer::write_pong;
+pub use packet_write_enr::write_enr_request;
+pub use packet_write_enr::write_enr_response;
+pub use packet_write_nodes::write_find_node;
+pub use packet_write_nodes::write_neighbors;
+pub use packet_write_ping::write_ping;
+pub use packet_write_pong::write_pong;
 pub use written::Written;
 pub use written::written_number;
 pub use written::written_size;
@@ -39,22 +39,22 @@ pub use written::written_size;
 // ---- packets read
 // An accepted datagram's packet has numbers, and spans of the datagram: `field_part` gives the bytes of an address, a key, a target or a
 // hash, `node_count` and `node_at` the nodes of a Neighbors.
-pub use envelope::hash_part;
-pub use envelope::signature_part;
-pub use packet_items::EnrSeq;
-pub use packets::EnrRequest;
-pub use packets::EnrResponse;
-pub use packets::FindNode;
-pub use packets::Neighbors;
-pub use packets::Ping;
-pub use packets::Pong;
-pub use packets::Recipient;
-pub use packets::Sender;
-pub use span::Span;
-pub use span::bytes_of as field_part;
-pub use spans::node_at;
-pub use spans::node_count;
-pub use wire::record_part;
+pub use packet::EnrRequest;
+pub use packet::EnrResponse;
+pub use packet::FindNode;
+pub use packet::Neighbors;
+pub use packet::Ping;
+pub use packet::Pong;
+pub use packet::Recipient;
+pub use packet::Sender;
+pub use packet_datagram::record_part;
+pub use packet_envelope::hash_part;
+pub use packet_envelope::signature_part;
+pub use packet_fields::node_at;
+pub use packet_fields::node_count;
+pub use packet_model::EnrSeq;
+pub use packet_span::Span;
+pub use packet_span::bytes_of as field_part;
 
 // ---- clocks and nodes
 pub use entry::Endpoint;

@@ -33,7 +33,7 @@ fn hash_input(fd: i32, name: &[u8]) {
         Input::Failed => os::fail(name),
         Input::Bytes(n) => {
             if n <= 65535 {
-                print_hash::print_hash(&buf[0..n]);
+                keccak_print::print_hash(&buf[0..n]);
             } else {
                 io::write_all(STDERR_FILENO, name);
                 io::write_all(STDERR_FILENO, b": more than 65535 bytes\n");

@@ -15,8 +15,8 @@ use Rattle.entry.specs.declared.EndpointProof.the-variants.{At}
 use Rattle.entry.specs.declared.PingState.the-variants.{Out}
 use Rattle.bucket_model.specs.Rules.{millis, proofHolds, proofExpired, isOverdue}
 use Rattle.packet_laws.specs.Sizes.{ReplySizes}
-use Rattle.packets.specs.declared.Packet.the-variants.{EnrRequest, Refused}
-use Rattle.wire.specs.Datagram.{packetIn, expired, readAt}
+use Rattle.packet.specs.declared.Packet.the-variants.{EnrRequest, Refused}
+use Rattle.packet_datagram.specs.Datagram.{packetIn, expired, readAt}
 
 pub record Limits : Type 0 where
   -- P1 "integer 0 is 80"

@@ -8,7 +8,7 @@ use borrow.Author.Tests.{lt-ltb, le-ltb}
 use lib.ListN.{length, take, drop}
 use lib.Seq.{length-take-le}
 use Rattle.octets.specs.Octets.{Bytes, sameBytes}
-use Rattle.lines.specs.Lines.{limit}
+use Rattle.log_lines.specs.Lines.{limit}
 use Rattle.log_line.specs.declared.Fields.{Fields}
 use Rattle.log_line.specs.declared.Kind.{Kind}
 use Rattle.log_line.specs.declared.Line.the-variants.{Unreadable}

@@ -11,7 +11,7 @@ use Rattle.text.specs.Decimals.{decimalOf}
 use Rattle.text.specs.Hex.{isHex, hex, unhex}
 use Rattle.text.specs.declared.Decimal.{Decimal}
 use Rattle.text.specs.declared.Decimal.the-variants.{Value, NotDecimal}
-use Rattle.lines.specs.Lines.{limit, Held, whole, tooLong}
+use Rattle.log_lines.specs.Lines.{limit, Held, whole, tooLong}
 use Rattle.log_line.specs.Fields.{span, fields, text, field}
 use Rattle.log_line.specs.declared.Span.{Span}
 use Rattle.log_line.specs.declared.Kind.{Kind}

@@ -278,7 +278,7 @@ fn sweep(line: &[u8], spans: [Span; 7]) -> Line
 pub fn read_line(line: &[u8]) -> Line
     ensures { λ r. ⌜ r ≡ lineOf (now (line .entry)) ⌝ }
 {
-    if lines::LIMIT < line.len() {
+    if log_lines::LIMIT < line.len() {
         return Line::Unreadable;
     }
     let found = split(line);

@@ -6,14 +6,14 @@ use native.Mathlib.Omega.{arith}
 use lib.ListN.{length, take, drop}
 use lib.Seq.{length-take-le}
 use Rattle.octets.specs.Octets.{Bytes, store}
-use Rattle.lines.specs.Lines.{whole}
+use Rattle.log_lines.specs.Lines.{whole}
 use Rattle.log_line.specs.declared.Line.{Line}
 use Rattle.log_line.specs.Forms.{lineOf}
-use Rattle.answer_rows.specs.AnswerRows.{answerRoom}
-use Rattle.own_line.specs.declared.Replay.{Replay}
-use Rattle.own_line.specs.declared.Stepped.{Stepped}
-use Rattle.own_line.specs.Answered.{sizeOf, stateOf, Answered}
-use Rattle.own_line.proofs.Memory.{size-fits, front-stored, front-is, front-same, front-part}
+use Rattle.log_answer.specs.AnswerRows.{answerRoom}
+use Rattle.log_own.specs.declared.Replay.{Replay}
+use Rattle.log_own.specs.declared.Stepped.{Stepped}
+use Rattle.log_own.specs.Answered.{sizeOf, stateOf, Answered}
+use Rattle.log_own.proofs.Memory.{size-fits, front-stored, front-is, front-same, front-part}
 use Rattle.log_replay.specs.Replay.{withTable, lineAnswer, lineAfter, answer, after}
 use Rattle.log_replay.specs.Steps.{AnsweredLine}
 

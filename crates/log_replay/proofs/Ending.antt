@@ -12,11 +12,11 @@ use Rattle.lists.specs.Lists.{empty}
 use Rattle.table_model.specs.Layout.{countOf}
 use Rattle.table_model.specs.Sound.{tableSound}
 use Rattle.printout.specs.Printout.{printout}
-use Rattle.printout_head.specs.Held.{room}
+use Rattle.printout.specs.Held.{room}
 use Rattle.printout.proofs.Sizes.{printout-fits}
-use Rattle.own_line.specs.declared.Replay.{Replay}
-use Rattle.own_line.specs.Answered.{sizeOf, stateOf}
-use Rattle.own_line.proofs.Memory.{size-some, size-fits, front-part}
+use Rattle.log_own.specs.declared.Replay.{Replay}
+use Rattle.log_own.specs.Answered.{sizeOf, stateOf}
+use Rattle.log_own.proofs.Memory.{size-some, size-fits, front-part}
 use Rattle.log_replay.specs.Replay.{Reached, ending}
 use Rattle.log_replay.proofs.Kept.{reached-good, good-table}
 

@@ -8,7 +8,7 @@ use lib.ListN.{length}
 use Rattle.octets.specs.Octets.{Bytes}
 use Rattle.lists.specs.Lists.{All}
 use Rattle.lists.proofs.Laws.{never}
-use Rattle.lines.specs.Lines.{limit}
+use Rattle.log_lines.specs.Lines.{limit}
 use Rattle.log_line.specs.declared.Line.{Line}
 use Rattle.log_line.specs.declared.Line.the-variants.{Own, Rx, Sent, Sweep, Unreadable}
 use Rattle.log_line.specs.Forms.{lineOf, spansOf, HexSpan}

@@ -13,7 +13,7 @@ use Rattle.lists.proofs.Laws.{byTest}
 use Rattle.text.proofs.Hex.{bytes-unhex}
 use Rattle.keccak.specs.Sponge.{keccak256}
 use Rattle.keccak.proofs.Laws.{keccak256-length, keccak256-bytes}
-use Rattle.lines.specs.Lines.{Held, whole, tooLong}
+use Rattle.log_lines.specs.Lines.{Held, whole, tooLong}
 use Rattle.log_line.specs.declared.Span.{Span}
 use Rattle.log_line.specs.declared.Line.{Line}
 use Rattle.log_line.specs.declared.Line.the-variants.{Own, Rx, Sent, Sweep, Unreadable}
@@ -26,21 +26,21 @@ use Rattle.table_model.specs.Sound.{tableSound}
 use Rattle.table_model.proofs.Table.{length-table}
 use Rattle.table_model.proofs.Sound.{SoundTable, sized-table, count-back, form-is-sound}
 use Rattle.table.specs.Init.{freshTable}
-use Rattle.history.specs.Model.{Env, Call, datagram, pingSent, sweep, Table, fresh, next}
-use Rattle.history.specs.Keccak.{withKeccak}
-use Rattle.history.specs.Chain.{IsCall}
-use Rattle.history.proofs.Step.{keccak-lawful}
-use Rattle.history.proofs.Sound.{TableSound, IsTable, fresh-sound, fresh-values, next-sound, next-values}
-use Rattle.calls_model.specs.Calls.{bytesAfter}
-use Rattle.calls_model.specs.Reading.{reading}
-use Rattle.calls_model.specs.Demand3.{encode}
-use Rattle.calls_model.proofs.Form.{table-form}
-use Rattle.calls_model.proofs.Step.{step-follows}
-use Rattle.own_line.specs.declared.Replay.{Replay}
-use Rattle.own_line.specs.OwnLine.{State, ownNumber, ownAnswer, ownAfter}
-use Rattle.own_line.specs.Answered.{sizeOf, stateOf}
-use Rattle.own_line.proofs.Memory.{size-some, size-fits}
-use Rattle.own_line.proofs.OwnLine.{accepted-count}
+use Rattle.call_history.specs.Model.{Env, Call, datagram, pingSent, sweep, Table, fresh, next}
+use Rattle.call_history.specs.Keccak.{withKeccak}
+use Rattle.call_history.specs.Chain.{IsCall}
+use Rattle.call_history.proofs.Step.{keccak-lawful}
+use Rattle.call_history.proofs.Sound.{TableSound, IsTable, fresh-sound, fresh-values, next-sound, next-values}
+use Rattle.call_model.specs.Calls.{bytesAfter}
+use Rattle.call_model.specs.Reading.{reading}
+use Rattle.call_model.specs.Demand3.{encode}
+use Rattle.call_model.proofs.Form.{table-form}
+use Rattle.call_model.proofs.Step.{step-follows}
+use Rattle.log_own.specs.declared.Replay.{Replay}
+use Rattle.log_own.specs.OwnLine.{State, ownNumber, ownAnswer, ownAfter}
+use Rattle.log_own.specs.Answered.{sizeOf, stateOf}
+use Rattle.log_own.proofs.Memory.{size-some, size-fits}
+use Rattle.log_own.proofs.OwnLine.{accepted-count}
 use Rattle.log_replay.specs.Replay.{lineAfter, after, Reached, start, line as reached-line}
 use Rattle.log_replay.proofs.Fields.{isRead, read-short}
 use Rattle.log_replay.proofs.Lines.{no-table-bytes}

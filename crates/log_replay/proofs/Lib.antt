@@ -1,3 +1,4 @@
+pub mod LineCallsLines
 pub mod Fields
 pub mod Answered
 pub mod Lines

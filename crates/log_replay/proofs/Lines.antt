@@ -6,21 +6,21 @@ use mathlib.Core.List.{[]}
 use native.Mathlib.Omega.{arith}
 use Rattle.octets.specs.Octets.{Bytes, part, numberFrom}
 use Rattle.lists.proofs.Laws.{never}
-use Rattle.lines.specs.Lines.{whole}
+use Rattle.log_lines.specs.Lines.{whole}
 use Rattle.log_line.specs.declared.Line.{Line}
 use Rattle.log_line.specs.declared.Line.the-variants.{Own, Rx, Sent, Sweep, Unreadable}
 use Rattle.log_line.specs.Fields.{said}
 use Rattle.log_line.specs.Forms.{lineOf}
 use Rattle.table_model.specs.Layout.{headerSound}
 use Rattle.table_model.specs.Sound.{tableSound}
-use Rattle.history.specs.Model.{Call, datagram, pingSent, sweep, closest}
-use Rattle.calls_model.specs.Calls.{answerOn, bytesAfter}
-use Rattle.calls_model.specs.Reading.{reading}
-use Rattle.calls_model.specs.AnyBytes.{SoundFor}
-use Rattle.calls_model.proofs.AnyBytes.{on-any-bytes}
-use Rattle.datagram_call.specs.Received.{received}
-use Rattle.answer_rows.specs.AnswerRows.{numberRow}
-use Rattle.answer_line.specs.AnswerLine.{receivedRow}
+use Rattle.call_history.specs.Model.{Call, datagram, pingSent, sweep, closest}
+use Rattle.call_model.specs.Calls.{answerOn, bytesAfter}
+use Rattle.call_model.specs.Reading.{reading}
+use Rattle.call_model.specs.AnyBytes.{SoundFor}
+use Rattle.call_model.proofs.AnyBytes.{on-any-bytes}
+use Rattle.call_datagram.specs.Received.{received}
+use Rattle.log_answer.specs.AnswerRows.{numberRow}
+use Rattle.log_answer.specs.AnswerLine.{receivedRow}
 use Rattle.log_replay.specs.Replay.{withTable, lineAnswer, lineAfter, answer, after}
 
 -- no bytes are no table

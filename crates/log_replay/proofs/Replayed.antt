@@ -7,15 +7,15 @@ use mathlib.Core.List.{List, _∷_, _++_, append-assoc}
 use native.Mathlib.Omega.{arith}
 use lib.ListN.{length, take}
 use Rattle.octets.specs.Octets.{Bytes, store}
-use Rattle.lines.specs.Lines.{limit, Held, tooLong}
-use Rattle.lines.specs.Steps.{fresh}
-use Rattle.lines.specs.Feeding.{Feeds, join}
-use Rattle.lines.proofs.Chunks.{feeds-lines}
-use Rattle.answer_rows.specs.AnswerRows.{answerRoom, numberRow}
-use Rattle.own_line.specs.declared.Replay.{Replay}
-use Rattle.own_line.specs.OwnLine.{startState}
-use Rattle.own_line.specs.Answered.{sizeOf, stateOf}
-use Rattle.own_line.proofs.Memory.{front-is}
+use Rattle.log_lines.specs.Lines.{limit, Held, tooLong}
+use Rattle.log_lines.specs.Steps.{fresh}
+use Rattle.log_lines.specs.Feeding.{Feeds, join}
+use Rattle.log_lines.proofs.Chunks.{feeds-lines}
+use Rattle.log_answer.specs.AnswerRows.{answerRoom, numberRow}
+use Rattle.log_own.specs.declared.Replay.{Replay}
+use Rattle.log_own.specs.OwnLine.{startState}
+use Rattle.log_own.specs.Answered.{sizeOf, stateOf}
+use Rattle.log_own.proofs.Memory.{front-is}
 use Rattle.log_replay.specs.Replay.{answer, after, ending, outputFrom, replayed}
 use Rattle.log_replay.specs.Steps.{AnsweredLine, Runs, done, next}
 use Rattle.log_replay.proofs.Answered.{unchanged}

@@ -3,18 +3,18 @@ use mathlib.Core.Bool.{cond}
 use mathlib.Core.List.{List, [], _∷_, _++_, map}
 use Rattle.octets.specs.Octets.{Bytes}
 use Rattle.lists.specs.Lists.{empty}
-use Rattle.lines.specs.Lines.{linesOf, Held, whole, tooLong, held}
+use Rattle.log_lines.specs.Lines.{linesOf, Held, whole, tooLong, held}
 use Rattle.log_line.specs.declared.Line.{Line}
 use Rattle.log_line.specs.declared.Line.the-variants.{Own, Rx, Sent, Sweep, Unreadable}
 use Rattle.log_line.specs.Fields.{said}
 use Rattle.log_line.specs.Forms.{lineOf}
-use Rattle.history.specs.Model.{datagram, pingSent, sweep}
-use Rattle.calls_model.specs.Calls.{answerOn, bytesAfter}
-use Rattle.calls_model.specs.Reading.{reading}
-use Rattle.datagram_call.specs.Received.{received}
-use Rattle.answer_rows.specs.AnswerRows.{numberRow}
-use Rattle.answer_line.specs.AnswerLine.{receivedRow}
-use Rattle.own_line.specs.OwnLine.{State, startState, ownAnswer, ownAfter}
+use Rattle.call_history.specs.Model.{datagram, pingSent, sweep}
+use Rattle.call_model.specs.Calls.{answerOn, bytesAfter}
+use Rattle.call_model.specs.Reading.{reading}
+use Rattle.call_datagram.specs.Received.{received}
+use Rattle.log_answer.specs.AnswerRows.{numberRow}
+use Rattle.log_answer.specs.AnswerLine.{receivedRow}
+use Rattle.log_own.specs.OwnLine.{State, startState, ownAnswer, ownAfter}
 use Rattle.printout.specs.Printout.{printout}
 
 -- ---- a line, by what it says

@@ -3,11 +3,11 @@ use Prim.Native.Nat.{_≤_}
 use mathlib.Core.List.{List, [], _∷_, _++_}
 use lib.ListN.{length, take}
 use Rattle.octets.specs.Octets.{Bytes}
-use Rattle.lines.specs.Lines.{Held}
-use Rattle.answer_rows.specs.AnswerRows.{answerRoom}
-use Rattle.own_line.specs.declared.Replay.{Replay}
-use Rattle.own_line.specs.declared.Stepped.{Stepped}
-use Rattle.own_line.specs.Answered.{stateOf, Answered}
+use Rattle.log_lines.specs.Lines.{Held}
+use Rattle.log_answer.specs.AnswerRows.{answerRoom}
+use Rattle.log_own.specs.declared.Replay.{Replay}
+use Rattle.log_own.specs.declared.Stepped.{Stepped}
+use Rattle.log_own.specs.Answered.{stateOf, Answered}
 use Rattle.log_replay.specs.Replay.{answer, after}
 
 -- a line is answered by the rules

@@ -15,24 +15,24 @@ use Rattle.octets.proofs.Laws.{same-refl}
 use Rattle.keccak.specs.Sponge.{keccak256}
 use Rattle.keccak.proofs.Laws.{keccak256-length}
 use Rattle.rlp.specs.Encoding.{Item, encode, encodes}
-use Rattle.packet_items.specs.Items.{dataOf, endpoint, pingItems, pongItems, findNodeItems, neighborsItems, enrRequestItems, enrResponseItems, enrSeqItems, nodeItem}
-use Rattle.packet_items.specs.declared.EnrSeq.{EnrSeq}
-use Rattle.packet_items.specs.declared.EnrSeq.the-variants.{Absent, Present}
-use Rattle.schema.specs.Shapes.{Begins}
-use Rattle.packets.specs.Packets.{typeOf, readAs}
-use Rattle.packets.specs.declared.PacketType.the-variants as type
-use Rattle.packets.specs.Accepted.{trailing, SeqFits, NodesGood, PingFields, PongFields, FindNodeFields, NeighborsFields, EnrRequestFields, EnrResponseFields}
-use Rattle.packets.proofs.Inversion.{ping-accepted, pong-accepted, find-node-accepted, enr-request-accepted, enr-response-accepted}
-use Rattle.packets.proofs.NodeLists.{neighbors-accepted}
-use Rattle.envelope.specs.Envelope.{isSized, hashMatches, signatureOf}
-use Rattle.wire.specs.Datagram.{packetIn}
-use Rattle.packet_parts.specs.Parts.{body}
+use Rattle.packet_model.specs.Items.{dataOf, endpoint, pingItems, pongItems, findNodeItems, neighborsItems, enrRequestItems, enrResponseItems, enrSeqItems, nodeItem}
+use Rattle.packet_model.specs.declared.EnrSeq.{EnrSeq}
+use Rattle.packet_model.specs.declared.EnrSeq.the-variants.{Absent, Present}
+use Rattle.packet_schema.specs.Shapes.{Begins}
+use Rattle.packet.specs.Packets.{typeOf, readAs}
+use Rattle.packet.specs.declared.PacketType.the-variants as type
+use Rattle.packet.specs.Accepted.{trailing, SeqFits, NodesGood, PingFields, PongFields, FindNodeFields, NeighborsFields, EnrRequestFields, EnrResponseFields}
+use Rattle.packet.proofs.Inversion.{ping-accepted, pong-accepted, find-node-accepted, enr-request-accepted, enr-response-accepted}
+use Rattle.packet.proofs.NodeLists.{neighbors-accepted}
+use Rattle.packet_envelope.specs.Envelope.{isSized, hashMatches, signatureOf}
+use Rattle.packet_datagram.specs.Datagram.{packetIn}
+use Rattle.packet_bodies.specs.Parts.{body}
 use Rattle.lists.proofs.Laws.{and-left, and-right}
-use Rattle.packet_parts.specs.Writers.{isRecord, content}
-use Rattle.packet_parts.proofs.Records.{record-bound, content-is}
+use Rattle.packet_bodies.specs.Writers.{isRecord, content}
+use Rattle.packet_bodies.proofs.Records.{record-bound, content-is}
 use Rattle.packet_join.specs.Join.{datagram}
 use Rattle.packet_join.proofs.Datagrams.{datagram-length}
-use Rattle.packet_parts.proofs.Sizes.{node-size, fields-bound}
+use Rattle.packet_bodies.proofs.Sizes.{node-size, fields-bound}
 use Rattle.packet_laws.specs.Bodies.{EnrFits}
 use Rattle.packet_laws.proofs.Sizes.{ping-bound, pong-bound, find-node-bound, neighbors-bound, enr-request-bound, enr-response-bound}
 use Rattle.packet_laws.specs.RoundTrip.{Fields, ping, pong, findNode, neighbors, enrRequest, enrResponse, none, fieldsOf, bodyOf, PingWritable, PongWritable, FindNodeWritable, NeighborsWritable, EnrResponseWritable, Writable, RoundTrip}

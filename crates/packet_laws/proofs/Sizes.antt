@@ -13,16 +13,16 @@ use Rattle.entry.specs.declared.Node.{Node}
 use Rattle.rlp.specs.Encoding.{Item, list, header, encode, encodes}
 use Rattle.rlp.proofs.Numbers.{length-uint, width-more, width-least}
 use Rattle.rlp.proofs.Writing.{header-short, header-long, encode-list, uint-size-small, uint-size-large}
-use Rattle.packet_items.specs.Items.{uint, endpoint, node, pingItems, pongItems, findNodeItems, neighborsItems, enrRequestItems, enrResponseItems, enrSeqItems, nodeItem}
-use Rattle.packet_items.specs.declared.EnrSeq.{EnrSeq}
-use Rattle.packet_items.specs.declared.EnrSeq.the-variants.{Absent, Present}
-use Rattle.packet_parts.specs.Parts.{isAddress, isAddressSize, body, nodeItems, nodesOf, haveAddresses, writableNodes}
-use Rattle.packet_parts.specs.declared.NodeList.{NodeList}
+use Rattle.packet_model.specs.Items.{uint, endpoint, node, pingItems, pongItems, findNodeItems, neighborsItems, enrRequestItems, enrResponseItems, enrSeqItems, nodeItem}
+use Rattle.packet_model.specs.declared.EnrSeq.{EnrSeq}
+use Rattle.packet_model.specs.declared.EnrSeq.the-variants.{Absent, Present}
+use Rattle.packet_bodies.specs.Parts.{isAddress, isAddressSize, body, nodeItems, nodesOf, haveAddresses, writableNodes}
+use Rattle.packet_bodies.specs.declared.NodeList.{NodeList}
 use Rattle.lists.proofs.Laws.{and-left, and-right}
-use Rattle.packet_parts.proofs.Sizes.{total-size, uint-bytes, string-short, string-long, uint-width, address-size, fields-size, fields-bound, endpoint-size, node-size}
-use Rattle.packet_parts.proofs.Nodes.{few, addresses, address-is}
-use Rattle.packet_parts.specs.Writers.{isRecord, content, canPing, canPong}
-use Rattle.packet_parts.proofs.Records.{record-bound, content-is}
+use Rattle.packet_bodies.proofs.Sizes.{total-size, uint-bytes, string-short, string-long, uint-width, address-size, fields-size, fields-bound, endpoint-size, node-size}
+use Rattle.packet_bodies.proofs.Nodes.{few, addresses, address-is}
+use Rattle.packet_bodies.specs.Writers.{isRecord, content, canPing, canPong}
+use Rattle.packet_bodies.proofs.Records.{record-bound, content-is}
 use Rattle.packet_join.specs.Join.{datagram}
 use Rattle.packet_join.proofs.Datagrams.{datagram-length}
 use Rattle.packet_laws.specs.Sizes.{AllOf, Joins, ReplySizes}

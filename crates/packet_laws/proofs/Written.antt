@@ -14,15 +14,15 @@ use Rattle.octets.proofs.Laws.{store-eq}
 use Rattle.entry.specs.declared.Node.{Node}
 use Rattle.entry.specs.Nodes.{addressOf}
 use Rattle.rlp.specs.Encoding.{Item}
-use Rattle.packet_items.specs.Items.{node, neighborsItems, nodeItem}
-use Rattle.packet_items.specs.declared.EnrSeq.{EnrSeq}
-use Rattle.packet_items.specs.declared.EnrSeq.the-variants.{Absent, Present}
-use Rattle.spans.specs.Spans.{padded}
-use Rattle.packets.specs.Accepted.{SeqFits, NodeGood, NodesGood}
-use Rattle.packet_parts.specs.Parts.{isAddress, isAddressSize, body, nodesOf, haveAddresses}
+use Rattle.packet_model.specs.Items.{node, neighborsItems, nodeItem}
+use Rattle.packet_model.specs.declared.EnrSeq.{EnrSeq}
+use Rattle.packet_model.specs.declared.EnrSeq.the-variants.{Absent, Present}
+use Rattle.packet_fields.specs.Spans.{padded}
+use Rattle.packet.specs.Accepted.{SeqFits, NodeGood, NodesGood}
+use Rattle.packet_bodies.specs.Parts.{isAddress, isAddressSize, body, nodesOf, haveAddresses}
 use Rattle.lists.proofs.Laws.{and-left, and-right}
-use Rattle.packet_parts.proofs.Sizes.{address-size}
-use Rattle.packet_parts.proofs.Nodes.{few, addresses, address-length}
+use Rattle.packet_bodies.proofs.Sizes.{address-size}
+use Rattle.packet_bodies.proofs.Nodes.{few, addresses, address-length}
 use Rattle.packet_laws.specs.Bodies.{EnrFits, NodeFits, NodesFit, WrittenBody}
 use Rattle.packet_laws.specs.Bodies as written
 use Rattle.packet_laws.specs.RoundTrip.{Fields, bodyOf, Writable}

@@ -6,11 +6,11 @@ use mathlib.Core.List.{List, [], _∷_}
 use lib.ListN.{length}
 use Rattle.octets.specs.Octets.{Bytes, Slice}
 use Rattle.entry.specs.declared.Node.{Node}
-use Rattle.packet_items.specs.declared.EnrSeq.{EnrSeq}
-use Rattle.packet_items.specs.declared.EnrSeq.the-variants.{Absent, Present}
-use Rattle.packet_parts.specs.Parts.{nodesOf, writableNodes}
-use Rattle.packet_parts.specs.declared.NodeList.{NodeList}
-use Rattle.packet_parts.specs.Writers.{canPing, pingBody, canPong, pongBody, canFindNode, findNodeBody, neighborsBody, enrRequestBody, canEnrResponse, enrResponseBody}
+use Rattle.packet_model.specs.declared.EnrSeq.{EnrSeq}
+use Rattle.packet_model.specs.declared.EnrSeq.the-variants.{Absent, Present}
+use Rattle.packet_bodies.specs.Parts.{nodesOf, writableNodes}
+use Rattle.packet_bodies.specs.declared.NodeList.{NodeList}
+use Rattle.packet_bodies.specs.Writers.{canPing, pingBody, canPong, pongBody, canFindNode, findNodeBody, neighborsBody, enrRequestBody, canEnrResponse, enrResponseBody}
 
 -- a u64 that may be missing
 abbrev pub EnrFits : EnrSeq → Type 0

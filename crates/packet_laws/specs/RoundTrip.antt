@@ -5,15 +5,15 @@ use mathlib.Core.Bool.{true}
 use mathlib.Core.List.{[], map}
 use lib.ListN.{length}
 use Rattle.octets.specs.Octets.{Bytes, Slice}
-use Rattle.packet_items.specs.Items.{neighborsItems, nodeItem}
-use Rattle.schema.specs.Shapes.{IsEndpoint}
-use Rattle.packets.specs.declared.Packet.{Packet}
-use Rattle.packets.specs.declared.Packet.the-variants as packet
-use Rattle.packets.specs.Accepted.{SeqFits, PingFields, pingFields, PongFields, pongFields, FindNodeFields, findNodeFields, NeighborsFields, neighborsFields, NodesGood, EnrRequestFields, enrRequestFields, EnrResponseFields, enrResponseFields}
-use Rattle.envelope.specs.Envelope.{isSized, hashMatches, signatureOf}
-use Rattle.wire.specs.Datagram.{packetIn}
-use Rattle.packet_parts.specs.Parts.{body}
-use Rattle.packet_parts.specs.Writers.{pingBody, pongBody, findNodeBody, enrRequestBody, canEnrResponse, enrResponseBody}
+use Rattle.packet_model.specs.Items.{neighborsItems, nodeItem}
+use Rattle.packet_schema.specs.Shapes.{IsEndpoint}
+use Rattle.packet.specs.declared.Packet.{Packet}
+use Rattle.packet.specs.declared.Packet.the-variants as packet
+use Rattle.packet.specs.Accepted.{SeqFits, PingFields, pingFields, PongFields, pongFields, FindNodeFields, findNodeFields, NeighborsFields, neighborsFields, NodesGood, EnrRequestFields, enrRequestFields, EnrResponseFields, enrResponseFields}
+use Rattle.packet_envelope.specs.Envelope.{isSized, hashMatches, signatureOf}
+use Rattle.packet_datagram.specs.Datagram.{packetIn}
+use Rattle.packet_bodies.specs.Parts.{body}
+use Rattle.packet_bodies.specs.Writers.{pingBody, pongBody, findNodeBody, enrRequestBody, canEnrResponse, enrResponseBody}
 use Rattle.packet_join.specs.Join.{datagram}
 
 pub data Fields : Type 0 where

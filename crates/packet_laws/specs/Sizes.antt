@@ -6,8 +6,8 @@ use mathlib.Core.List.{List, [], _∷_}
 use lib.ListN.{length}
 use Rattle.octets.specs.Octets.{Bytes}
 use Rattle.rlp.specs.Encoding.{Item, encode}
-use Rattle.packet_items.specs.Items.{uint, node, neighborsItems}
-use Rattle.packet_parts.specs.Parts.{body}
+use Rattle.packet_model.specs.Items.{uint, node, neighborsItems}
+use Rattle.packet_bodies.specs.Parts.{body}
 use Rattle.packet_join.specs.Join.{canJoin, datagram}
 
 -- a body joins with a signature, and the packet does not pass 1,280 bytes

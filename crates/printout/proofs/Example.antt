@@ -13,8 +13,8 @@ use Rattle.bucket_model.specs.Contents.{Contents, noContents}
 use Rattle.bucket_model.specs.Rules.{millis}
 use Rattle.table_model.specs.Layout.{encodeTable}
 use Rattle.table_model.proofs.Sound.{SoundTable, count-back, clock-back, buckets-back}
-use Rattle.entry_row.specs.EntryRow.{entryRow}
-use Rattle.printout_head.specs.TableRow.{tableWord, entryTotal, replacementTotal, tableRow}
+use Rattle.printout_entry.specs.EntryRow.{entryRow}
+use Rattle.printout.specs.TableRow.{tableWord, entryTotal, replacementTotal, tableRow}
 use Rattle.printout.specs.Printout.{entryRows, bucketRows, bucketsRows, printout}
 
 abbrev pub printed : ℕ → List Contents → Bytes

@@ -1,3 +1,6 @@
+pub mod Slots
+pub mod PrintoutHeadRows
+pub mod Counts
 pub mod Rows
 pub mod Sizes
 pub mod Distances

@@ -15,9 +15,9 @@ use Rattle.table_model.proofs.Entries.{behind, behind-none, behind-all, behind-
 use Rattle.table_model.proofs.Table.{count-read}
 use Rattle.octets.proofs.Writing.{Wrote}
 use Rattle.octets.proofs.Progress.{Progress, concat, start, finish}
-use Rattle.entry_row.specs.EntryRow.{entryRow}
+use Rattle.printout_entry.specs.EntryRow.{entryRow}
 use Rattle.printout.specs.Printout.{entryRows, bucketRows, bucketsRows}
-use Rattle.printout_head.proofs.Rows.{next-bucket}
+use Rattle.printout.proofs.PrintoutHeadRows.{next-bucket}
 
 -- ---- a text that is written part by part
 

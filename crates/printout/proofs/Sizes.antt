@@ -10,10 +10,10 @@ use Rattle.lists.specs.Lists.{All}
 use Rattle.lists.proofs.Laws.{at-All}
 use Rattle.text.specs.Decimals.{decimal}
 use Rattle.text.proofs.Decimals.{length-below, length-bound}
-use Rattle.rows.specs.Rows.{entryWord, replacementWord}
-use Rattle.rows.proofs.Rows.{length-row}
-use Rattle.entry_row.specs.EntryRow.{entryRow}
-use Rattle.entry_row.proofs.Rows.{entry-bound}
+use Rattle.printout_rows.specs.Rows.{entryWord, replacementWord}
+use Rattle.printout_rows.proofs.Rows.{length-row}
+use Rattle.printout_entry.specs.EntryRow.{entryRow}
+use Rattle.printout_entry.proofs.Rows.{entry-bound}
 use Rattle.distance.specs.Distance.{home}
 use Rattle.entry.specs.declared.Entry.{Entry}
 use Rattle.entry.proofs.Laws.{IsEntry}
@@ -24,8 +24,8 @@ use Rattle.table_model.specs.Layout.{ownOf, clockOf, countOf, numberOf, buckets
 use Rattle.table_model.specs.Sound.{tableSound}
 use Rattle.table_model.proofs.Sound.{sound-is-table}
 use Rattle.table_model.proofs.Table.{count-read}
-use Rattle.printout_head.specs.TableRow.{tableWord, entryTotal, replacementTotal, tableRow}
-use Rattle.printout_head.specs.Held.{room}
+use Rattle.printout.specs.TableRow.{tableWord, entryTotal, replacementTotal, tableRow}
+use Rattle.printout.specs.Held.{room}
 use Rattle.printout.specs.Printout.{entryRows, bucketRows, bucketsRows, printout}
 
 entries-bound : (word : Bytes) (number place : ℕ) (es : List Entry) → length word ≤ 4 → number < 1000 → place + length es ≤ 100 → All IsEntry es

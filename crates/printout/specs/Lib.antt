@@ -1,1 +1,3 @@
+pub mod TableRow
+pub mod Held
 pub mod Printout

@@ -3,12 +3,12 @@
 use Prim.Native.Nat.{ℕ, suc, _-_}
 use mathlib.Core.List.{List, [], _∷_, _++_}
 use Rattle.octets.specs.Octets.{Bytes}
-use Rattle.rows.specs.Rows.{entryWord, replacementWord}
-use Rattle.entry_row.specs.EntryRow.{entryRow}
+use Rattle.printout_rows.specs.Rows.{entryWord, replacementWord}
+use Rattle.printout_entry.specs.EntryRow.{entryRow}
 use Rattle.entry.specs.declared.Entry.{Entry}
 use Rattle.bucket_model.specs.Contents.{Contents}
 use Rattle.table_model.specs.Layout.{countOf, bucketsOf}
-use Rattle.printout_head.specs.TableRow.{tableRow}
+use Rattle.printout.specs.TableRow.{tableRow}
 
 -- ---- the buckets
 

@@ -6,13 +6,13 @@ use native.Mathlib.Omega.{arith}
 use lib.ListN.{length}
 use Rattle.octets.specs.Octets.{Bytes}
 use Rattle.octets.proofs.Laws.{length-store}
-use Rattle.lines.specs.Lines.{Held}
-use Rattle.lines.specs.declared.Begun.{Begun}
-use Rattle.lines.specs.Steps.{fresh}
-use Rattle.answer_rows.specs.AnswerRows.{answerRoom}
-use Rattle.own_line.specs.declared.Replay.{Replay}
-use Rattle.own_line.specs.declared.Stepped.{Stepped}
-use Rattle.own_line.specs.Answered.{stateOf}
+use Rattle.log_lines.specs.Lines.{Held}
+use Rattle.log_lines.specs.declared.Begun.{Begun}
+use Rattle.log_lines.specs.Steps.{fresh}
+use Rattle.log_answer.specs.AnswerRows.{answerRoom}
+use Rattle.log_own.specs.declared.Replay.{Replay}
+use Rattle.log_own.specs.declared.Stepped.{Stepped}
+use Rattle.log_own.specs.Answered.{stateOf}
 use Rattle.log_replay.specs.Replay.{after, start, line}
 use Rattle.log_replay.specs.Steps.{AnsweredLine}
 use Rattle.log_replay.proofs.Replayed.{startReplay, start-state}

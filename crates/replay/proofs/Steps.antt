@@ -8,11 +8,11 @@ use lib.Dec.{ltb, eqb}
 use lib.ListN.{length, drop}
 use Rattle.octets.specs.Octets.{Bytes}
 use Rattle.lists.proofs.Laws.{byTest}
-use Rattle.lines.specs.declared.Begun.{Begun}
-use Rattle.lines.specs.declared.Step.the-variants as step
-use Rattle.lines.specs.declared.Last.the-variants as last
-use Rattle.lines.specs.Steps.{piece, grown, stepOf, lastOf}
-use Rattle.lines.proofs.Laws.{grown-size}
+use Rattle.log_lines.specs.declared.Begun.{Begun}
+use Rattle.log_lines.specs.declared.Step.the-variants as step
+use Rattle.log_lines.specs.declared.Last.the-variants as last
+use Rattle.log_lines.specs.Steps.{piece, grown, stepOf, lastOf}
+use Rattle.log_lines.proofs.Laws.{grown-size}
 use Rattle.replay.specs.declared.Progress.{Progress}
 use Rattle.replay.specs.Progress.{left}
 

@@ -4,17 +4,17 @@ ghost use mathlib.Core.Path.{_≡_};
 ghost use mathlib.Core.Bool.{true, false};
 ghost use Prim.Native.Nat.{_+_, _≤_, _<_};
 ghost use lib.ListN.{length};
-ghost use Rattle.lines.specs.Steps.{fresh};
-ghost use Rattle.own_line.specs.Answered.{stateOf};
+ghost use Rattle.log_lines.specs.Steps.{fresh};
+ghost use Rattle.log_own.specs.Answered.{stateOf};
 ghost use Rattle.log_replay.specs.Replay.{Reached};
 ghost use Rattle.replay.specs.Progress.{Ready, left};
 use libc::STDIN_FILENO;
-use lines::Begun;
-use lines::LIMIT;
-use lines::Last;
-use lines::Step;
-use own_line::MEMORY;
-use own_line::Replay;
+use log_lines::Begun;
+use log_lines::LIMIT;
+use log_lines::Last;
+use log_lines::Step;
+use log_own::MEMORY;
+use log_own::Replay;
 use replay_output::make_room;
 use replay_output::write_out;
 
@@ -83,7 +83,7 @@ fn turn(memory: &mut [u8], buffer: &mut [u8], out: &mut [u8], chunk: &[u8], p: P
 {
     let begun = p.begun;
     let at = p.at;
-    match lines::next_line(buffer, begun, chunk, at) {
+    match log_lines::next_line(buffer, begun, chunk, at) {
         Step::Line { len, next } => answer(memory, buffer, out, p, len, next),
         Step::TooLong { next } => answer_long(out, p, next),
         Step::More(begun) => {
@@ -176,7 +176,7 @@ fn answer_last(memory: &mut [u8], buffer: &[u8], out: &mut [u8], p: Progress) ->
     ensures { λ r. ⌜ Ready (now (memory .exit)) (now (buffer .entry)) (now (out .exit)) r ⌝ }
 {
     let begun = p.begun;
-    match lines::last_line(begun) {
+    match log_lines::last_line(begun) {
         Last::Line { len } => answer(memory, buffer, out, p, len, 0),
         Last::TooLong => answer_long(out, p, 0),
         Last::Nothing => p,

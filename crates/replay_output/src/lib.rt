@@ -1,7 +1,7 @@
 // The output of the replay program: gathered in a buffer, and written to standard output when the next answer might find no room.
 ghost use Prim.Native.Nat.{_+_, _≤_};
 ghost use lib.ListN.{length};
-ghost use Rattle.answer_rows.specs.AnswerRows.{answerRoom};
+ghost use Rattle.log_answer.specs.AnswerRows.{answerRoom};
 use libc::STDOUT_FILENO;
 
 pub fn write_out(bytes: &[u8]) {

@@ -45,15 +45,15 @@ use Rattle.closest_nodes.specs.declared.Listed.{Listed}
 use Rattle.closest_nodes.proofs.Chosen.{fits, answers}
 use Rattle.closest_nodes.proofs.Listed as TL
 use Rattle.closest_nodes.proofs.Listed.Laws as TL′
-use Rattle.closest_call.proofs.closest as callee
-use Rattle.closest_call.proofs.closest.Symbol as callee-def
-use Rattle.closest_call.proofs.closest.Symbol.{name as #callee}
-use Rattle.closest_call.proofs.closest.Met as callee-thm
-use Rattle.answer_code.specs.Codes.{listedCode}
-use Rattle.answer_code.proofs.listed_code as tell
-use Rattle.answer_code.proofs.listed_code.Symbol as tell-def
-use Rattle.answer_code.proofs.listed_code.Symbol.{name as #tell}
-use Rattle.answer_code.proofs.listed_code.Met as tell-thm
+use Rattle.closest.proofs.closest as callee
+use Rattle.closest.proofs.closest.Symbol as callee-def
+use Rattle.closest.proofs.closest.Symbol.{name as #callee}
+use Rattle.closest.proofs.closest.Met as callee-thm
+use Rattle.capi_codes.specs.Codes.{listedCode}
+use Rattle.capi_codes.proofs.listed_code as tell
+use Rattle.capi_codes.proofs.listed_code.Symbol as tell-def
+use Rattle.capi_codes.proofs.listed_code.Symbol.{name as #tell}
+use Rattle.capi_codes.proofs.listed_code.Met as tell-thm
 use Rattle.capi.proofs.coghammer_closest.Key.{name as #self}
 use Rattle.capi.proofs.coghammer_closest as self
 use Rattle.capi.proofs.coghammer_closest.Statement as stated
@@ -148,5 +148,5 @@ coghammer-closest-spec 𝓤 H 𝓜 𝓖 𝓡 =
     entered 𝓤 H (tripleOf 𝓤 H (𝓖 .A) self.signature (self.spec 𝓤 H (𝓖 .A) (𝓜 .mem) (𝓡 .run)))
     (tables 𝓤 H 𝓜 𝓡 code.env .C) (tables 𝓤 H 𝓜 𝓡 code.env .Λ) #self code.function (code.unfolded 𝓤 H 𝓜 𝓡)
     (meets 𝓤 H (𝓖 .A) (givenOf 𝓤 H 𝓜 𝓖) (𝓜 .mem) (𝓡 .run) (tablesOf 𝓤 H 𝓜 (tables 𝓤 H 𝓜 𝓡 code.env))
-    (cited 𝓤 H (tripleOf 𝓤 H (𝓖 .A) callee.signature (callee.spec 𝓤 H (𝓖 .A) (𝓜 .mem) (𝓡 .run))) 𝓜 𝓡 code.env #callee callee-def.routine code.calls-closest-call·closest (callee-thm.met 𝓤 H 𝓜 𝓖 𝓡))
-    (cited 𝓤 H (tripleOf 𝓤 H (𝓖 .A) tell.signature (tell.spec 𝓤 H (𝓖 .A) (𝓜 .mem) (𝓡 .run))) 𝓜 𝓡 code.env #tell tell-def.routine code.calls-answer-code·listed-code (tell-thm.met 𝓤 H 𝓜 𝓖 𝓡)))
+    (cited 𝓤 H (tripleOf 𝓤 H (𝓖 .A) callee.signature (callee.spec 𝓤 H (𝓖 .A) (𝓜 .mem) (𝓡 .run))) 𝓜 𝓡 code.env #callee callee-def.routine code.calls-closest·closest (callee-thm.met 𝓤 H 𝓜 𝓖 𝓡))
+    (cited 𝓤 H (tripleOf 𝓤 H (𝓖 .A) tell.signature (tell.spec 𝓤 H (𝓖 .A) (𝓜 .mem) (𝓡 .run))) 𝓜 𝓡 code.env #tell tell-def.routine code.calls-capi-codes·listed-code (tell-thm.met 𝓤 H 𝓜 𝓖 𝓡)))

@@ -1,8 +1,8 @@
 -- `capi::coghammer_head` meets its contract. Assumes nothing.
 use mathlib.Core.Path.{_≡_, sym, ap, _∙_}
 use borrow.Author.Tests.{ne-eqb}
-use Rattle.bucket_head.specs.declared.Head.{Head}
-use Rattle.bucket_head.proofs.Heads.{number-is}
+use Rattle.capi_head.specs.declared.Head.{Head}
+use Rattle.capi_head.proofs.Heads.{number-is}
 use borrow.Author.Needs.{needs}
 use Rattle.capi.proofs.coghammer_head.Statement.{statement}
 use Rattle.capi.proofs.coghammer_head.Tie as tie

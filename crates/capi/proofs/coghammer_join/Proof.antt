@@ -1,8 +1,8 @@
 -- `capi::coghammer_join` meets its contract. Assumes nothing.
 use mathlib.Core.Path.{ap, _∙_}
 use Rattle.packet_join.specs.Join.{canJoin, datagram}
-use Rattle.answer_code.proofs.Sizes.{short-fits, joined-size}
-use Rattle.answer_code.specs.Codes.{writtenCode}
+use Rattle.capi_codes.proofs.Sizes.{short-fits, joined-size}
+use Rattle.capi_codes.specs.Codes.{writtenCode}
 use borrow.Author.Needs.{needs}
 use Rattle.capi.proofs.coghammer_join.Statement.{statement}
 use Rattle.capi.proofs.coghammer_join.Tie as tie

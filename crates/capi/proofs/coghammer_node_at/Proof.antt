@@ -1,6 +1,6 @@
 -- `capi::coghammer_node_at` meets its contract. Assumes nothing.
 use mathlib.Core.Path.{ap}
-use Rattle.flat_packet.specs.declared.FlatNode.{FlatNode}
+use Rattle.capi_packet.specs.declared.FlatNode.{FlatNode}
 use borrow.Author.Needs.{needs}
 use Rattle.capi.proofs.coghammer_node_at.Statement.{statement}
 use Rattle.capi.proofs.coghammer_node_at.Tie as tie

@@ -2,10 +2,10 @@
 use mathlib.Core.Path.{_≡_, refl, _∙_}
 use mathlib.Core.List.{List}
 use Prim.Native.Nat.{ℕ}
-use Rattle.packets.specs.declared.Packet.{Packet}
-use Rattle.packets.specs.declared.Packet.the-variants as packet
-use Rattle.wire.specs.Datagram.{packetIn}
-use Rattle.flat_packet.specs.Fields.{readNumber, fieldsAfter}
+use Rattle.packet.specs.declared.Packet.{Packet}
+use Rattle.packet.specs.declared.Packet.the-variants as packet
+use Rattle.packet_datagram.specs.Datagram.{packetIn}
+use Rattle.capi_packet.specs.Fields.{readNumber, fieldsAfter}
 use borrow.Author.Needs.{needs}
 use Rattle.capi.proofs.coghammer_packet.Statement.{statement}
 use Rattle.capi.proofs.coghammer_packet.Tie as tie

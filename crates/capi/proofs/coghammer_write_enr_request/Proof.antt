@@ -2,10 +2,10 @@
 use mathlib.Core.Path.{ap, _∙_}
 use mathlib.Core.Bool.{true}
 use native.Mathlib.Omega.{arith}
-use Rattle.packet_parts.specs.Writers.{enrRequestBody}
+use Rattle.packet_bodies.specs.Writers.{enrRequestBody}
 use Rattle.packet_laws.specs.Bodies.{enrRequest}
-use Rattle.answer_code.proofs.Sizes.{body-fits}
-use Rattle.answer_code.specs.Codes.{writtenCode}
+use Rattle.capi_codes.proofs.Sizes.{body-fits}
+use Rattle.capi_codes.specs.Codes.{writtenCode}
 use borrow.Author.Needs.{needs}
 use Rattle.capi.proofs.coghammer_write_enr_request.Statement.{statement}
 use Rattle.capi.proofs.coghammer_write_enr_request.Tie as tie

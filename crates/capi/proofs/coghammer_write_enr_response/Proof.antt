@@ -2,10 +2,10 @@
 use mathlib.Core.Path.{ap, _∙_}
 use native.Mathlib.Omega.{arith}
 use Rattle.octets.proofs.Laws.{slice}
-use Rattle.packet_parts.specs.Writers.{canEnrResponse, enrResponseBody}
+use Rattle.packet_bodies.specs.Writers.{canEnrResponse, enrResponseBody}
 use Rattle.packet_laws.specs.Bodies.{enrResponse}
-use Rattle.answer_code.proofs.Sizes.{body-fits}
-use Rattle.answer_code.specs.Codes.{writtenCode}
+use Rattle.capi_codes.proofs.Sizes.{body-fits}
+use Rattle.capi_codes.specs.Codes.{writtenCode}
 use borrow.Author.Needs.{needs}
 use Rattle.capi.proofs.coghammer_write_enr_response.Statement.{statement}
 use Rattle.capi.proofs.coghammer_write_enr_response.Tie as tie

@@ -1,10 +1,10 @@
 -- `capi::coghammer_write_find_node` meets its contract. Assumes nothing.
 use mathlib.Core.Path.{ap, _∙_}
 use native.Mathlib.Omega.{arith}
-use Rattle.packet_parts.specs.Writers.{canFindNode, findNodeBody}
+use Rattle.packet_bodies.specs.Writers.{canFindNode, findNodeBody}
 use Rattle.packet_laws.specs.Bodies.{findNode}
-use Rattle.answer_code.proofs.Sizes.{body-fits}
-use Rattle.answer_code.specs.Codes.{writtenCode}
+use Rattle.capi_codes.proofs.Sizes.{body-fits}
+use Rattle.capi_codes.specs.Codes.{writtenCode}
 use borrow.Author.Needs.{needs}
 use Rattle.capi.proofs.coghammer_write_find_node.Statement.{statement}
 use Rattle.capi.proofs.coghammer_write_find_node.Tie as tie

@@ -5,13 +5,13 @@ use Prim.Native.Nat.{ℕ}
 use native.Mathlib.Omega.{arith}
 use borrow.Author.Tests.{not-true, not-false}
 use Rattle.octets.specs.Octets.{Bytes}
-use Rattle.packet_parts.specs.Parts.{writableNodes}
+use Rattle.packet_bodies.specs.Parts.{writableNodes}
 use Rattle.written.specs.Written.{written, writtenIn}
-use Rattle.packet_parts.specs.Writers.{neighborsBody}
-use Rattle.answer_code.specs.Codes.{code, writtenCode}
-use Rattle.packed_nodes.specs.Packed.{isPacked, packedList, canPacked}
-use Rattle.answer_code.proofs.Sizes.{body-fits}
-use Rattle.packed_nodes.proofs.Packed.{body-is-written, same-answer, same-bytes}
+use Rattle.packet_bodies.specs.Writers.{neighborsBody}
+use Rattle.capi_codes.specs.Codes.{code, writtenCode}
+use Rattle.capi_nodes.specs.Packed.{isPacked, packedList, canPacked}
+use Rattle.capi_codes.proofs.Sizes.{body-fits}
+use Rattle.capi_nodes.proofs.Packed.{body-is-written, same-answer, same-bytes}
 use borrow.Author.Needs.{needs}
 use Rattle.capi.proofs.coghammer_write_neighbors.Statement.{statement}
 use Rattle.capi.proofs.coghammer_write_neighbors.Tie as tie

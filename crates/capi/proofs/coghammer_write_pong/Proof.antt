@@ -1,8 +1,8 @@
 -- `capi::coghammer_write_pong` meets its contract. Assumes nothing.
 use native.Mathlib.Omega.{arith}
-use Rattle.packet_parts.specs.Writers.{canPong, pongBody}
+use Rattle.packet_bodies.specs.Writers.{canPong, pongBody}
 use Rattle.packet_laws.specs.Bodies.{pong}
-use Rattle.answer_code.proofs.Sizes.{body-fits, seq-fits, by-seq}
+use Rattle.capi_codes.proofs.Sizes.{body-fits, seq-fits, by-seq}
 use borrow.Author.Needs.{needs}
 use Rattle.capi.proofs.coghammer_write_pong.Statement.{statement}
 use Rattle.capi.proofs.coghammer_write_pong.Tie as tie

@@ -1,7 +1,7 @@
 -- `closest_choice::none_chosen` meets its contract. Assumes nothing.
 use mathlib.Core.Path.{ap}
 use borrow.Author.Needs.{needs}
-use Rattle.nearest.specs.declared.Nearest.{Nearest}
+use Rattle.closest_nearest.specs.declared.Nearest.{Nearest}
 use Rattle.closest_choice.proofs.none_chosen.Statement.{statement}
 use Rattle.closest_choice.proofs.none_chosen.Tie as tie
 

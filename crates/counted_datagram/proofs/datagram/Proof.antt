@@ -1,5 +1,5 @@
 -- `counted_datagram::datagram` meets its contract: a walk of its MIR, by hand, printed by tools/public_call.py.
--- The call does its work by a covered function, `datagram_call::datagram_on`, and counts the answer in the counters that the caller lends.
+-- The call does its work by a covered function, `call_datagram::datagram_on`, and counts the answer in the counters that the caller lends.
 -- The counters are the first parameter, so that the tokens and what the other parameters own are, as they stand, what `datagram_on` asks.
 -- Both `&mut`s are given up for good: the table to `datagram_on`, and the counters to `counters::count`.
 -- All that the walk knows of the functions that it calls is that each meets its contract. Assumes nothing.
@@ -43,14 +43,14 @@ use denote.Triple.Walked.{Stays, gave-ref, gave-slice, stay-dropped, walkOf, All
 use denote.Exit.{yes}
 use Rattle.walk.proofs.Call.{Callee, the-contract, Tokens, Owned, Last, calls-known, calls-plain}
 use Rattle.walk.proofs.Facts.{joined, parted, says-all}
-use Rattle.history.specs.Model as model
-use Rattle.calls_model.specs.Calls.{bytesAfter}
-use Rattle.calls_model.specs.Reading.{reading}
-use Rattle.datagram_answer.specs.Answer.{numberOf}
-use Rattle.datagram_call.specs.Received.{received}
-use Rattle.datagram_answer.specs.declared.Received.{Received}
-use Rattle.datagram_answer.proofs.Received as TA
-use Rattle.datagram_answer.proofs.Received.Laws as TA′
+use Rattle.call_history.specs.Model as model
+use Rattle.call_model.specs.Calls.{bytesAfter}
+use Rattle.call_model.specs.Reading.{reading}
+use Rattle.call_answer.specs.Answer.{numberOf}
+use Rattle.call_datagram.specs.Received.{received}
+use Rattle.call_answer.specs.declared.Received.{Received}
+use Rattle.call_answer.proofs.Received as TA
+use Rattle.call_answer.proofs.Received.Laws as TA′
 use Rattle.counters.specs.Counters.{raised}
 use Rattle.counters.specs.declared.Counters.{Counters}
 use Rattle.counters.proofs.Counters as TC
@@ -62,14 +62,14 @@ use Rattle.entry.proofs.MonotonicMillis as MonotonicMillis
 use Rattle.entry.proofs.MonotonicMillis.Laws as MonotonicMillis′
 use Rattle.entry.proofs.UnixSeconds as UnixSeconds
 use Rattle.entry.proofs.UnixSeconds.Laws as UnixSeconds′
-use Rattle.datagram_answer.proofs.number as number
-use Rattle.datagram_answer.proofs.number.Symbol as number-def
-use Rattle.datagram_answer.proofs.number.Symbol.{name as #number}
-use Rattle.datagram_answer.proofs.number.Met as number-thm
-use Rattle.datagram_call.proofs.datagram_on as work
-use Rattle.datagram_call.proofs.datagram_on.Symbol as work-def
-use Rattle.datagram_call.proofs.datagram_on.Symbol.{name as #work}
-use Rattle.datagram_call.proofs.datagram_on.Met as work-thm
+use Rattle.call_answer.proofs.number as number
+use Rattle.call_answer.proofs.number.Symbol as number-def
+use Rattle.call_answer.proofs.number.Symbol.{name as #number}
+use Rattle.call_answer.proofs.number.Met as number-thm
+use Rattle.call_datagram.proofs.datagram_on as work
+use Rattle.call_datagram.proofs.datagram_on.Symbol as work-def
+use Rattle.call_datagram.proofs.datagram_on.Symbol.{name as #work}
+use Rattle.call_datagram.proofs.datagram_on.Met as work-thm
 use Rattle.counted_datagram.proofs.datagram.Key.{name as #self}
 use Rattle.counted_datagram.proofs.datagram as self
 use Rattle.counted_datagram.proofs.datagram.Statement as stated
@@ -187,6 +187,6 @@ datagram-spec 𝓤 H 𝓜 𝓖 𝓡 =
     entered 𝓤 H (tripleOf 𝓤 H (𝓖 .A) self.signature (self.spec 𝓤 H (𝓖 .A) (𝓜 .mem) (𝓡 .run)))
     (tables 𝓤 H 𝓜 𝓡 code.env .C) (tables 𝓤 H 𝓜 𝓡 code.env .Λ) #self code.function (code.unfolded 𝓤 H 𝓜 𝓡)
     (meets 𝓤 H (𝓖 .A) (givenOf 𝓤 H 𝓜 𝓖) (𝓜 .mem) (𝓡 .run) (tablesOf 𝓤 H 𝓜 (tables 𝓤 H 𝓜 𝓡 code.env))
-    (cited 𝓤 H (tripleOf 𝓤 H (𝓖 .A) work.signature (work.spec 𝓤 H (𝓖 .A) (𝓜 .mem) (𝓡 .run))) 𝓜 𝓡 code.env #work work-def.routine code.calls-datagram-call·datagram-on (work-thm.met 𝓤 H 𝓜 𝓖 𝓡))
-    (cited 𝓤 H (tripleOf 𝓤 H (𝓖 .A) number.signature (number.spec 𝓤 H (𝓖 .A) (𝓜 .mem) (𝓡 .run))) 𝓜 𝓡 code.env #number number-def.routine code.calls-datagram-answer·number (number-thm.met 𝓤 H 𝓜 𝓖 𝓡))
+    (cited 𝓤 H (tripleOf 𝓤 H (𝓖 .A) work.signature (work.spec 𝓤 H (𝓖 .A) (𝓜 .mem) (𝓡 .run))) 𝓜 𝓡 code.env #work work-def.routine code.calls-call-datagram·datagram-on (work-thm.met 𝓤 H 𝓜 𝓖 𝓡))
+    (cited 𝓤 H (tripleOf 𝓤 H (𝓖 .A) number.signature (number.spec 𝓤 H (𝓖 .A) (𝓜 .mem) (𝓡 .run))) 𝓜 𝓡 code.env #number number-def.routine code.calls-call-answer·number (number-thm.met 𝓤 H 𝓜 𝓖 𝓡))
     (cited 𝓤 H (tripleOf 𝓤 H (𝓖 .A) count.signature (count.spec 𝓤 H (𝓖 .A) (𝓜 .mem) (𝓡 .run))) 𝓜 𝓡 code.env #count count-def.routine code.calls-counters·count (count-thm.met 𝓤 H 𝓜 𝓖 𝓡)))

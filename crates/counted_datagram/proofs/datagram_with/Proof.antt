@@ -46,14 +46,14 @@ use denote.Exit.{yes}
 use Rattle.walk.proofs.Call.{Callee, the-contract, Tokens, Last, calls-known}
 use Rattle.walk.proofs.Facts.{joined, parted, says-all}
 use Rattle.walk.proofs.Lent.{lent, back}
-use Rattle.history.specs.Model as model
-use Rattle.calls_model.specs.Calls.{bytesAfter}
-use Rattle.calls_model.specs.Reading.{reading}
-use Rattle.datagram_answer.specs.Answer.{numberOf}
-use Rattle.datagram_call.specs.Received.{received}
-use Rattle.datagram_answer.specs.declared.Received.{Received}
-use Rattle.datagram_answer.proofs.Received as TA
-use Rattle.datagram_answer.proofs.Received.Laws as TA′
+use Rattle.call_history.specs.Model as model
+use Rattle.call_model.specs.Calls.{bytesAfter}
+use Rattle.call_model.specs.Reading.{reading}
+use Rattle.call_answer.specs.Answer.{numberOf}
+use Rattle.call_datagram.specs.Received.{received}
+use Rattle.call_answer.specs.declared.Received.{Received}
+use Rattle.call_answer.proofs.Received as TA
+use Rattle.call_answer.proofs.Received.Laws as TA′
 use Rattle.counters.specs.Counters.{raised}
 use Rattle.counters.specs.declared.Counters.{Counters}
 use Rattle.counters.proofs.Counters as TC

@@ -1,5 +1,5 @@
 -- `counted_ping_sent::ping_sent` meets its contract: a walk of its MIR, by hand, printed by tools/public_call.py.
--- The call does its work by a covered function, `ping_sent_call::ping_sent_on`, and counts the answer in the counters that the caller lends.
+-- The call does its work by a covered function, `call_ping_sent::ping_sent_on`, and counts the answer in the counters that the caller lends.
 -- The counters are the first parameter, so that the tokens and what the other parameters own are, as they stand, what `ping_sent_on` asks.
 -- Both `&mut`s are given up for good: the table to `ping_sent_on`, and the counters to `counters::count`.
 -- All that the walk knows of the functions that it calls is that each meets its contract. Assumes nothing.
@@ -42,9 +42,9 @@ use denote.Triple.Walked.{Stays, gave-ref, gave-slice, stay-dropped, walkOf, All
 use denote.Exit.{yes}
 use Rattle.walk.proofs.Call.{Callee, the-contract, Tokens, Last, calls-known}
 use Rattle.walk.proofs.Facts.{joined, parted, says-all}
-use Rattle.history.specs.Model as model
-use Rattle.calls_model.specs.Calls.{answerOn, bytesAfter}
-use Rattle.calls_model.specs.Reading.{reading}
+use Rattle.call_history.specs.Model as model
+use Rattle.call_model.specs.Calls.{answerOn, bytesAfter}
+use Rattle.call_model.specs.Reading.{reading}
 use Rattle.counters.specs.Counters.{raised}
 use Rattle.counters.specs.declared.Counters.{Counters}
 use Rattle.counters.proofs.Counters as TC
@@ -54,10 +54,10 @@ use Rattle.counters.proofs.count.Symbol.{name as #count}
 use Rattle.counters.proofs.count.Met as count-thm
 use Rattle.entry.proofs.MonotonicMillis as MonotonicMillis
 use Rattle.entry.proofs.MonotonicMillis.Laws as MonotonicMillis′
-use Rattle.ping_sent_call.proofs.ping_sent_on as work
-use Rattle.ping_sent_call.proofs.ping_sent_on.Symbol as work-def
-use Rattle.ping_sent_call.proofs.ping_sent_on.Symbol.{name as #work}
-use Rattle.ping_sent_call.proofs.ping_sent_on.Met as work-thm
+use Rattle.call_ping_sent.proofs.ping_sent_on as work
+use Rattle.call_ping_sent.proofs.ping_sent_on.Symbol as work-def
+use Rattle.call_ping_sent.proofs.ping_sent_on.Symbol.{name as #work}
+use Rattle.call_ping_sent.proofs.ping_sent_on.Met as work-thm
 use Rattle.counted_ping_sent.proofs.ping_sent.Key.{name as #self}
 use Rattle.counted_ping_sent.proofs.ping_sent as self
 use Rattle.counted_ping_sent.proofs.ping_sent.Statement as stated
@@ -166,5 +166,5 @@ ping-sent-spec 𝓤 H 𝓜 𝓖 𝓡 =
     entered 𝓤 H (tripleOf 𝓤 H (𝓖 .A) self.signature (self.spec 𝓤 H (𝓖 .A) (𝓜 .mem) (𝓡 .run)))
     (tables 𝓤 H 𝓜 𝓡 code.env .C) (tables 𝓤 H 𝓜 𝓡 code.env .Λ) #self code.function (code.unfolded 𝓤 H 𝓜 𝓡)
     (meets 𝓤 H (𝓖 .A) (givenOf 𝓤 H 𝓜 𝓖) (𝓜 .mem) (𝓡 .run) (tablesOf 𝓤 H 𝓜 (tables 𝓤 H 𝓜 𝓡 code.env))
-    (cited 𝓤 H (tripleOf 𝓤 H (𝓖 .A) work.signature (work.spec 𝓤 H (𝓖 .A) (𝓜 .mem) (𝓡 .run))) 𝓜 𝓡 code.env #work work-def.routine code.calls-ping-sent-call·ping-sent-on (work-thm.met 𝓤 H 𝓜 𝓖 𝓡))
+    (cited 𝓤 H (tripleOf 𝓤 H (𝓖 .A) work.signature (work.spec 𝓤 H (𝓖 .A) (𝓜 .mem) (𝓡 .run))) 𝓜 𝓡 code.env #work work-def.routine code.calls-call-ping-sent·ping-sent-on (work-thm.met 𝓤 H 𝓜 𝓖 𝓡))
     (cited 𝓤 H (tripleOf 𝓤 H (𝓖 .A) count.signature (count.spec 𝓤 H (𝓖 .A) (𝓜 .mem) (𝓡 .run))) 𝓜 𝓡 code.env #count count-def.routine code.calls-counters·count (count-thm.met 𝓤 H 𝓜 𝓖 𝓡)))

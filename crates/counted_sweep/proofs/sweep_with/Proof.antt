@@ -46,9 +46,9 @@ use denote.Exit.{yes}
 use Rattle.walk.proofs.Call.{Callee, the-contract, Tokens, Last, calls-known}
 use Rattle.walk.proofs.Facts.{joined, parted, says-all}
 use Rattle.walk.proofs.Lent.{lent, back}
-use Rattle.history.specs.Model as model
-use Rattle.calls_model.specs.Calls.{answerOn, bytesAfter}
-use Rattle.calls_model.specs.Reading.{reading}
+use Rattle.call_history.specs.Model as model
+use Rattle.call_model.specs.Calls.{answerOn, bytesAfter}
+use Rattle.call_model.specs.Reading.{reading}
 use Rattle.counters.specs.Counters.{raised}
 use Rattle.counters.specs.declared.Counters.{Counters}
 use Rattle.counters.proofs.Counters as TC

@@ -1,12 +1,12 @@
 -- `log_replay::step` meets its contract. Assumes nothing.
 use mathlib.Core.Path.{refl, sym, _∙_}
-use Rattle.history.specs.Model.{datagram, pingSent, sweep}
-use Rattle.calls_model.specs.Calls.{answerOn, bytesAfter}
-use Rattle.calls_model.specs.Reading.{reading}
-use Rattle.datagram_call.specs.Received.{received}
+use Rattle.call_history.specs.Model.{datagram, pingSent, sweep}
+use Rattle.call_model.specs.Calls.{answerOn, bytesAfter}
+use Rattle.call_model.specs.Reading.{reading}
+use Rattle.call_datagram.specs.Received.{received}
 use Rattle.log_line.specs.Fields.{said}
-use Rattle.answer_rows.specs.AnswerRows.{numberRow}
-use Rattle.answer_line.specs.AnswerLine.{receivedRow}
+use Rattle.log_answer.specs.AnswerRows.{numberRow}
+use Rattle.log_answer.specs.AnswerLine.{receivedRow}
 use Rattle.log_replay.specs.Replay.{lineAfter, lineAnswer}
 use Rattle.log_replay.proofs.Fields.{read-short, read-spans}
 use Rattle.log_replay.proofs.Answered.{unchanged, called, by-line}

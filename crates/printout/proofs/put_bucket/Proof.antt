@@ -8,7 +8,7 @@ use Rattle.octets.specs.Octets.{Bytes}
 use Rattle.bucket_model.specs.Contents.{Contents, entriesAt}
 use Rattle.bucket_model.proofs.ByteForm.{decode-bucket}
 use Rattle.table_model.specs.Layout.{offsetOf, bucketAt}
-use Rattle.rows.specs.Rows.{entryWord, replacementWord}
+use Rattle.printout_rows.specs.Rows.{entryWord, replacementWord}
 use Rattle.octets.proofs.Progress.{Progress, concat, start, room, step, finish}
 use Rattle.printout.specs.Printout.{entryRows, bucketRows}
 use borrow.Author.Needs.{needs}

@@ -9,7 +9,7 @@ use Rattle.table_model.specs.Layout.{countOf, bucketsOf}
 use Rattle.octets.proofs.Progress.{Progress, room, step, renamed}
 use Rattle.printout.specs.Printout.{bucketsRows}
 use Rattle.printout.proofs.Rows.{passed, start-one, finish-one, firstNumber, rowsFrom, all-buckets, no-buckets, due-rows}
-use Rattle.printout_head.proofs.Slots.{header-in, at-most, bucket-in}
+use Rattle.printout.proofs.Slots.{header-in, at-most, bucket-in}
 use Rattle.printout.proofs.put_buckets.Statement.{statement}
 use Rattle.printout.proofs.put_buckets.Tie as tie
 

@@ -11,7 +11,7 @@ use Rattle.bucket_model.specs.Contents.{entriesAt}
 use Rattle.table_model.proofs.Entries.{behind, behind-all}
 use Rattle.octets.proofs.Progress.{Progress, room, step, renamed}
 use Rattle.printout.specs.Printout.{entryRows}
-use Rattle.entry_row.specs.EntryRow.{HasAddress}
+use Rattle.printout_entry.specs.EntryRow.{HasAddress}
 use Rattle.printout.proofs.Rows.{passed, start-one, finish-one, rowsBehind, all-rows, no-rows, due-row, holds-here, holds-behind}
 use Rattle.printout.proofs.put_entries.Statement.{statement}
 use Rattle.printout.proofs.put_entries.Tie as tie

@@ -7,7 +7,7 @@ use lib.ListN.{length}
 use Rattle.octets.specs.Octets.{Bytes, IsBytes}
 use Rattle.table_model.specs.Layout.{countOf, bucketsOf}
 use Rattle.octets.proofs.Progress.{Progress, concat, start, room, step, finish}
-use Rattle.printout_head.specs.TableRow.{tableRow}
+use Rattle.printout.specs.TableRow.{tableRow}
 use Rattle.printout.specs.Printout.{bucketsRows, printout}
 use Rattle.printout.proofs.Sizes.{printout-fits}
 use borrow.Author.Needs.{needs}

@@ -1,6 +1,6 @@
 -- `replay::answer` meets its contract. Assumes nothing.
 use mathlib.Core.Path.{refl}
-use Rattle.lines.specs.Lines.{whole}
+use Rattle.log_lines.specs.Lines.{whole}
 use Rattle.replay.proofs.Ready.{after-line}
 use borrow.Author.Needs.{needs}
 use Rattle.replay.proofs.answer.Statement.{statement}

@@ -1,2 +1,0 @@
-pub mod ByKey
-pub mod Laws

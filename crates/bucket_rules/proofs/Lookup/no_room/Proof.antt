@@ -1,0 +1,18 @@
+-- `bucket_rules::Lookup::no_room` meets its contract. Assumes nothing.
+use lib.Dec.{leb}
+use Rattle.bucket_rules.proofs.BucketLookupLaws.{room}
+use borrow.Author.Needs.{needs}
+use Rattle.bucket_rules.proofs.Lookup.no_room.Statement.{statement}
+use Rattle.bucket_rules.proofs.Lookup.no_room.Tie as tie
+
+is-held-requires : tie.Need-is-held-requires
+is-held-requires c κs = search needs
+
+both-requires : tie.Need-both-requires
+both-requires c κs = search needs
+
+returns : tie.Need-returns
+returns c = room (c .before .before .args .self) (leb 4 (c .before .before .args .replacements)) (c .before .is-held .ensures) (c .both .ensures)
+
+pub no-room-spec : {M : Type 1} → statement M
+no-room-spec = tie.close (tie.spec is-held-requires both-requires returns)

@@ -1,0 +1,30 @@
+-- `bucket_rules::stays` meets its contract. Assumes nothing.
+use mathlib.Core.Path.{ap}
+use mathlib.Core.Bool.{not}
+use Rattle.bucket_entry.proofs.Laws.{joined}
+use Rattle.bucket_rules.proofs.BucketSweepLaws.{stays-waiting, stays-else}
+use borrow.Author.Needs.{needs}
+use Rattle.bucket_rules.proofs.stays.Statement.{statement}
+use Rattle.bucket_rules.proofs.stays.Tie as tie
+
+is-overdue-requires : tie.Need-is-overdue-requires
+is-overdue-requires c κs = search needs
+
+proof-expired-requires : tie.Need-proof-expired-requires
+proof-expired-requires c κs = search needs
+
+both-requires : tie.Need-both-requires
+both-requires c κs = search needs
+
+returns : tie.Need-returns
+returns c = let args = c .before .before .before .before .args in
+    stays-waiting (args .clock .0) (args .e) (args .waiting) (c .before .before .if1 .taken)
+    (joined (c .both .ensures) (ap not (c .before .before .before .is-overdue .ensures)) (ap not (c .before .proof-expired .ensures)))
+
+returns-2 : tie.Need-returns-2
+returns-2 c = let args = c .before .before .args in
+    stays-else (args .clock .0) (args .e) (args .waiting) (c .if1 .left) (ap not (c .before .is-overdue .ensures))
+
+pub stays-spec : {M : Type 1} → statement M
+stays-spec =
+    tie.close (tie.spec is-overdue-requires proof-expired-requires both-requires returns returns-2)

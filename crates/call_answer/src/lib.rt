@@ -1,0 +1,120 @@
+// The answer to a datagram, of its sender's bucket by value.
+ghost use mathlib.Core.Path.{_≡_};
+ghost use Rattle.octets.specs.Octets.{Bytes};
+ghost use Rattle.entry.specs.Nodes.{nodeOf};
+ghost use Rattle.bucket.specs.Values.{contents, Bounded};
+ghost use Rattle.bucket_rules.specs.Found.{LooksUp};
+ghost use Rattle.call_answer.specs.Answer as spec;
+use bucket::Bucket;
+use bucket_rules::Lookup;
+use entry::Entry;
+use entry::MonotonicMillis;
+use entry::Node;
+use entry::PingState;
+use packet::EnrRequest;
+use packet::EnrResponse;
+use packet::FindNode;
+use packet::Neighbors;
+use packet::Packet;
+use packet::Ping;
+use packet::Pong;
+
+// What became of the sender of an accepted pong.
+pub enum Standing {
+    // It was an entry, and is now at the tail.
+    Tail,
+    // It was a replacement, and now has an entry at the tail.
+    TookEntry,
+    // It stays a replacement, proved; this is the ping state of the head.
+    Waiting(PingState),
+}
+
+// The answer to a datagram.
+pub enum Outcome {
+    // The answer number, from 1 to 15.
+    Refused(u8),
+    // A pong is due; and a ping too, if so.
+    Ping(Ping, bool),
+    Pong(Pong, Standing),
+    FindNode(FindNode),
+    Neighbors(Neighbors),
+    EnrRequest(EnrRequest),
+    EnrResponse(EnrResponse),
+}
+
+// `head` is the node at the head of the bucket where the sender of a pong waits, else a node of zeros.
+pub struct Received {
+    pub outcome: Outcome,
+    pub head: Node,
+}
+
+// The answer number.
+pub fn number(received: Received) -> u8
+    ensures { λ r. ⌜ r ≡ spec.numberOf received ⌝ }
+{
+    let outcome = received.outcome;
+    match outcome {
+        Outcome::Refused(n) => n,
+        Outcome::Ping(_, _) => 0,
+        Outcome::Pong(_, _) => 0,
+        Outcome::FindNode(_) => 0,
+        Outcome::Neighbors(_) => 0,
+        Outcome::EnrRequest(_) => 0,
+        Outcome::EnrResponse(_) => 0,
+    }
+}
+
+// An answer that names no node.
+pub fn plain(outcome: Outcome) -> Received
+    ensures { λ r. ⌜ r ≡ spec.plain outcome ⌝ }
+{
+    let head = entry::no_node();
+    Received { outcome, head }
+}
+
+// The answer to the pong of a replacement that finds no free entry.
+fn waiting(p: Pong, e: Entry) -> Received
+    ensures { λ r. ⌜ r ≡ record { outcome = Outcome.Pong p (Standing.Waiting (e .ping)); head = nodeOf e } ⌝ }
+{
+    let ping = e.ping;
+    let head = entry::node_of(e);
+    let outcome = Outcome::Pong(p, Standing::Waiting(ping));
+    Received { outcome, head }
+}
+
+// The answer to an accepted pong of the node that was looked up.
+fn accepted_pong(b: Bucket, l: Lookup, p: Pong) -> Received
+    requires { ⌜ Bounded b ⌝ }
+    ensures { λ r. ⌜ ((key : Bytes) → LooksUp key (contents b) l → r ≡ spec.acceptedPong key p (contents b)) ⌝ }
+{
+    if l.has_entry() {
+        return plain(Outcome::Pong(p, Standing::Tail));
+    }
+    if b.free_entry() {
+        return plain(Outcome::Pong(p, Standing::TookEntry));
+    }
+    waiting(p, bucket_rules::head(b))
+}
+
+// The answer to an accepted packet of the node that was looked up.
+pub fn accepted(
+    b: Bucket,
+    l: Lookup,
+    packet: Packet,
+    clock: MonotonicMillis,
+    address: &[u8],
+    port: u16,
+) -> Received
+    requires { ⌜ Bounded b ⌝ }
+    ensures { λ r. ⌜ ((key : Bytes) → LooksUp key (contents b) l → r ≡ spec.accepted (clock .0) (now (address .entry)) port key packet (contents b)) ⌝ }
+{
+    match packet {
+        Packet::Ping(p) => plain(Outcome::Ping(p, l.ping_due(address, port, clock))),
+        Packet::Pong(p) => accepted_pong(b, l, p),
+        Packet::FindNode(p) => plain(Outcome::FindNode(p)),
+        Packet::Neighbors(p) => plain(Outcome::Neighbors(p)),
+        Packet::EnrRequest(p) => plain(Outcome::EnrRequest(p)),
+        Packet::EnrResponse(p) => plain(Outcome::EnrResponse(p)),
+        Packet::Refused(n) => plain(Outcome::Refused(n)),
+    }
+}

@@ -1,0 +1,5 @@
+pub mod Judging
+pub mod Packet
+pub mod Delivery
+pub mod Datagram
+pub mod Answered

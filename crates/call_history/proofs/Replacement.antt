@@ -1,0 +1,267 @@
+-- A proved node in line leaves it only at a sweep, and takes an entry exactly where there is one for it and for every proved node
+-- ahead of it.
+use Prim.Native.Nat.{ℕ, _<_, _≤_}
+use mathlib.Core.Path.{_≡_, refl, ap, sym, _∙_}
+use mathlib.Core.Logic.{_⊎_, inl, inr, ⊎-elim}
+use mathlib.Core.Bool.{Bool, true, false}
+use mathlib.Core.List.{List, [], _∷_}
+use native.Mathlib.Omega.{arith}
+use borrow.Author.Tests.{ltb-true, ltb-false}
+use lib.Dec.{ltb}
+use lib.ListN.{length, length-append, length-map}
+use Rattle.octets.specs.Octets.{Bytes, sameBytes}
+use Rattle.octets.proofs.Laws.{same-eq}
+use Rattle.lists.specs.Lists.{empty, before, All}
+use Rattle.lists.proofs.Laws.{byTest, never, empty-append, select-agree, length-select, All-select, All-before, All-map, All-imp, Rising-select}
+use Rattle.entry.specs.declared.Entry.{Entry}
+use Rattle.bucket_model.specs.Contents.{Contents}
+use Rattle.bucket_model.specs.Rules.{maxEntries, isOf, ofKey, held, isProved, pinged, ponged, heard, promoted, remaining, staysEntry, staysReplacement, freeAfter, onPingSent, onPong, onHeard}
+use Rattle.bucket_model.proofs.Keys.{promoted-or-remaining}
+use Rattle.bucket_model.proofs.View.{Mapped, own-heard, own-pong-stays, own-pinged, own-sweep, ofKey-kept}
+use Rattle.bucket_model.proofs.Promotion.{provedEntry, provedBefore, promoted-room, room-promoted, ofKey-remaining, lower-before}
+use Rattle.call_history.specs.Model.{Env, Reading, Call, datagram, pingSent, sweep, closest, Table, slot, bucketOf, Accepted, onDatagram, next, Run}
+use Rattle.call_history.specs.Words.{entryOf, replacementOf, HasEntry, AcceptedSweep, began, proved, ProvedReplacement, keptReplacements, ahead}
+use Rattle.call_history.specs.Demand3.{LeavesReplacements, HasRoomFor, TakesEntry, Drops, ProvedByPong, InOrder}
+use Rattle.call_history.proofs.Step.{byDatagram, byAnswer, swept-bucket}
+use Rattle.call_history.proofs.Sound.{TableSound}
+use Rattle.call_history.proofs.View as View
+use Rattle.call_history.proofs.Log.{Known, KnownIn}
+use Rattle.call_history.proofs.Entry.{count-mapped}
+
+abbrev IsProved : Entry → Type 0
+IsProved p = provedEntry p ≡ true
+
+-- ---- a call other than a sweep
+
+-- a bucket holds the key in line, proved, and has no entry of it
+pub record Waits (key : Bytes) (b : Contents) : Type 0 where
+  pub in-line : 0 < length (ofKey key (b .replacements))
+  pub is-proved : All (λ p. provedEntry p ≡ true) (ofKey key (b .replacements))
+  pub no-entry : length (ofKey key (b .entries)) ≡ 0
+
+module _ (now : ℕ) (key : Bytes) (b : Contents) (w : Waits key b) where
+  mapped-waits : (f : Entry → Entry) → ((p : Entry) → IsProved p → IsProved (f p)) → (c : Contents) → Mapped now key b f c → Waits key c
+  mapped-waits f g c h =
+      record {
+        in-line = rw (h .replacements) (simp length-map (w .in-line));
+        is-proved = rw (h .replacements) (All-map IsProved IsProved f g (ofKey key (b .replacements)) (w .is-proved));
+        no-entry = count-mapped now key b f c h ∙ w .no-entry;
+      }
+
+  pingSent-waits : (address : Bytes) (udp tcp : ℕ) (hash : Bytes) → Waits key (onPingSent now key address udp tcp hash b)
+  pingSent-waits address udp tcp hash =
+      let old : empty (held key b) ≡ false =
+      byTest (empty (held key b))
+      (λ g. absurd (omega (arith, w .in-line, empty-append (ofKey key (b .entries)) (ofKey key (b .replacements)) g .1)))
+      (λ g. g) in
+      mapped-waits (pinged now hash) (λ p h. h) (onPingSent now key address udp tcp hash b) (own-pinged now key b address udp tcp hash old)
+
+  -- no entry is free for it
+  datagram-waits : maxEntries ≤ length (b .entries) → (address : Bytes) (udp : ℕ) (r : Reading) → Waits key (onDatagram now address udp key r b)
+  datagram-waits taken address udp r =
+      byDatagram (Waits key) now address udp key r b
+      (λ _. w)
+      (λ _. mapped-waits (heard now) (λ p h. h) (onHeard now key b) (own-heard now key b))
+      (λ _. mapped-waits (ponged now) (λ p h. refl) (onPong now key b) (own-pong-stays now key b taken))
+
+module _ (e : Env) (s : Table) (ok : TableSound e s) where
+  -- proved nodes wait only where every entry is taken
+  all-taken : (X : Bytes) → Waits X (bucketOf e s X) → maxEntries ≤ length (bucketOf e s X .entries)
+  all-taken X w =
+      let b = bucketOf e s X in
+      byTest (ltb (length (b .entries)) maxEntries)
+      (λ g.
+      let unproved = All-select (λ p. provedEntry p ≡ false) (isOf X) (b .replacements) (ok .each (slot e X) .full (ltb-true (length (b .entries)) maxEntries g)) in
+      let both = some-both (replacementOf e X s) (w .in-line) (w .is-proved) unproved in
+      never both)
+      (λ g. ltb-false (length (b .entries)) maxEntries g)
+    where
+      some-both : (l : List Entry) → 0 < length l → All IsProved l → All (λ p. provedEntry p ≡ false) l → true ≡ false
+      some-both [] h a c = absurd (omega arith)
+      some-both (p ∷ l) h a c = sym (a .0) ∙ c .0
+
+  stays-in-line : (X : Bytes) → Waits X (bucketOf e s X) → (c : Call) → Waits X (bucketOf e (next e s c) X) ⊎ ((t : ℕ) × AcceptedSweep e s c t)
+  stays-in-line X w (datagram now unix address udp key bytes) =
+      inl (byTest (sameBytes X key)
+      (λ h.
+      let own : Waits key (bucketOf e s key) = rw (same-eq X key h) at w in
+      rw (same-eq X key h)
+      (View.own-datagram e s (ok .sized) (Waits key) now unix address udp key bytes
+      (λ _. datagram-waits now key (bucketOf e s key) own (all-taken key own) address udp (e .read bytes unix)) (λ _. own)))
+      (λ h.
+      let same = View.other-datagram e s (ok .sized) X key h now unix address udp bytes in
+      record {
+        in-line = rw (same .replacements) (w .in-line);
+        is-proved = rw (same .replacements) (w .is-proved);
+        no-entry = rw (same .entries) (w .no-entry);
+      }))
+  stays-in-line X w (pingSent now key address udp tcp hash) =
+      inl (byTest (sameBytes X key)
+      (λ h.
+      let own : Waits key (bucketOf e s key) = rw (same-eq X key h) at w in
+      rw (same-eq X key h)
+      (View.own-pingSent e s (ok .sized) (Waits key) now key address udp tcp hash
+      (λ _. pingSent-waits now key (bucketOf e s key) own address udp tcp hash) (λ _. own)))
+      (λ h.
+      let same = View.other-pingSent e s (ok .sized) X key h now address udp tcp hash in
+      record {
+        in-line = rw (same .replacements) (w .in-line);
+        is-proved = rw (same .replacements) (w .is-proved);
+        no-entry = rw (same .entries) (w .no-entry);
+      }))
+  stays-in-line X w (sweep now) =
+      byAnswer e (λ s′. Waits X (bucketOf e s′ X) ⊎ ((t : ℕ) × AcceptedSweep e s (sweep now) t)) s (sweep now)
+      (λ a. inr (now, (refl, a)))
+      (λ _. inl w)
+  stays-in-line X w (closest target room) =
+      inl (byAnswer e (λ s′. Waits X (bucketOf e s′ X)) s (closest target room) (λ _. w) (λ _. w))
+
+  -- ---- a sweep
+
+  module _ (X : Bytes) (w : Waits X (bucketOf e s X)) (t : ℕ) where
+    abbrev free : ℕ
+    free = freeAfter t (bucketOf e s X)
+
+    abbrev line : List Entry
+    line = keptReplacements e t s X
+
+    -- what a sweep at t keeps of the node is proved, and stands in line once
+    line-proved : All IsProved (ofKey X line)
+    line-proved = rw (ofKey-kept X t (bucketOf e s X)) (All-select IsProved (staysReplacement t) (replacementOf e X s) (w .is-proved))
+
+    line-once : length (ofKey X line) ≤ 1
+    line-once =
+        rw (ofKey-kept X t (bucketOf e s X))
+        (omega (arith, ok .each (slot e X) .once X, length-select (staysReplacement t) (replacementOf e X s)))
+
+    module _ (a : Accepted e s (sweep t)) where
+      swept-entries : length (entryOf e X (next e s (sweep t))) ≡ length (ofKey X (promoted free line))
+      swept-entries =
+          byAnswer e (λ s′. length (entryOf e X s′) ≡ length (ofKey X (promoted free line))) s (sweep t)
+          (λ _. rw (swept-bucket e s t (slot e X), own-sweep X t (bucketOf e s X) .entries)
+          (simp length-append (omega (arith, w .no-entry, length-select (staysEntry t) (entryOf e X s)))))
+          (λ rejected. absurd (rejected a))
+
+      swept-replacements : replacementOf e X (next e s (sweep t)) ≡ ofKey X (remaining free line)
+      swept-replacements =
+          byAnswer e (λ s′. replacementOf e X s′ ≡ ofKey X (remaining free line)) s (sweep t)
+          (λ _. rw (swept-bucket e s t (slot e X)) (own-sweep X t (bucketOf e s X) .replacements))
+          (λ rejected. absurd (rejected a))
+
+      -- promoted, still in line, or not kept
+      after-sweep : HasEntry e X (next e s (sweep t)) ⊎ (Waits X (bucketOf e (next e s (sweep t)) X) ⊎ (length (ofKey X line) ≡ 0))
+      after-sweep =
+          let split = promoted-or-remaining X free line in
+          byTest (ltb 0 (length (ofKey X (promoted free line))))
+          (λ g. inl (omega (arith, swept-entries, ltb-true 0 (length (ofKey X (promoted free line))) g)))
+          (λ g.
+          let none = ltb-false 0 (length (ofKey X (promoted free line))) g in
+          inr (byTest (ltb 0 (length (ofKey X line)))
+          (λ f.
+          let some = ltb-true 0 (length (ofKey X line)) f in
+          inl (record {
+            in-line = rw swept-replacements (omega arith);
+            is-proved = rw swept-replacements (ofKey-remaining IsProved X free line line-proved);
+            no-entry = omega (arith, swept-entries);
+          }))
+          (λ f. inr (omega (arith, ltb-false 0 (length (ofKey X line)) f)))))
+
+-- ---- the sentences
+
+module _ (e : Env) (r : Run e) (ok : TableSound e (r .table)) where
+  waits : ((X : Bytes) → KnownIn e X (r .log) (bucketOf e (r .table) X)) → (X : Bytes) → ProvedReplacement e X r → Waits X (bucketOf e (r .table) X)
+  waits known X w =
+      record {
+        in-line = w .0;
+        is-proved = All-imp (Known e X (r .log)) IsProved (λ p kn. kn .proved-is ∙ w .1) (replacementOf e X (r .table)) (known X .1);
+        no-entry = omega (arith, w .0, ok .each (slot e X) .once X);
+      }
+
+  pub waits-proved : ((X : Bytes) → KnownIn e X (r .log) (bucketOf e (r .table) X)) → (X : Bytes) → Waits X (bucketOf e (r .table) X) → ProvedReplacement e X r
+  waits-proved known X w =
+      let log-is = All-imp (Known e X (r .log)) (λ p. isProved (p .proof) ≡ proved e (r .log) X) (λ p kn. kn .proved-is) (replacementOf e X (r .table)) (known X .1) in
+      (w .in-line, one (replacementOf e X (r .table)) (w .in-line) log-is (w .is-proved))
+    where
+      one : (l : List Entry) → 0 < length l → All (λ p. isProved (p .proof) ≡ proved e (r .log) X) l → All IsProved l → proved e (r .log) X ≡ true
+      one [] h a c = absurd (omega arith)
+      one (p ∷ l) h a c = sym (a .0) ∙ c .0
+
+  module _ (known : (X : Bytes) → KnownIn e X (r .log) (bucketOf e (r .table) X)) (c : Call) where
+    pub leaves-replacements : LeavesReplacements e r c
+    leaves-replacements X w gone =
+        ⊎-elim (λ still. absurd (gone (still .in-line))) (λ swept. swept) (stays-in-line e (r .table) ok X (waits known X w) c)
+
+    module _ (proofs : ProvedByPong e r) (in-order : InOrder e r) where
+      -- those ahead of X stand before it in line
+      ahead-before : (X : Bytes) (t : ℕ) → 0 < length (ofKey X (keptReplacements e t (r .table) X))
+          → length (ahead e t r X) ≡ provedBefore X (keptReplacements e t (r .table) X)
+      unfolding provedBefore
+      ahead-before X t kept =
+          let b = bucketOf e (r .table) X in
+          let kept-line = keptReplacements e t (r .table) X in
+          let by-log : Entry → Bool = λ p. proved e (r .log) (p .key) in
+          ap length
+          (lower-before (began e (r .log)) by-log X kept-line (Rising-select _ (staysReplacement t) (b .replacements) (in-order (slot e X))) kept
+          ∙ select-agree by-log provedEntry (before (isOf X) kept-line)
+          (All-before (λ p. by-log p ≡ provedEntry p) (isOf X) kept-line
+          (All-select (λ p. by-log p ≡ provedEntry p) (staysReplacement t) (b .replacements)
+          (All-imp (λ p. provedEntry p ≡ by-log p) (λ p. by-log p ≡ provedEntry p) (λ p h. sym h) (b .replacements) (proofs (slot e X))))))
+
+      pub takes-entry : TakesEntry e r c
+      takes-entry X w = (
+        λ has. ⊎-elim
+            (λ still. absurd (omega (arith, still .no-entry, has)))
+            (λ swept.
+            let t = swept .0 in
+            let is : c ≡ sweep t = swept .1 .0 in
+            let a : Accepted e (r .table) (sweep t) = rw is at (swept .1 .1) in
+            let has′ : HasEntry e X (next e (r .table) (sweep t)) = rw is at has in
+            let kept-line = keptReplacements e t (r .table) X in
+            let room = freeAfter t (bucketOf e (r .table) X) in
+            let count = swept-entries e (r .table) ok X (waits known X w) t a in
+            let kept : 0 < length (ofKey X kept-line) = omega (arith, promoted-or-remaining X room kept-line) in (
+              t,
+              swept .1,
+              kept,
+              omega (arith, ahead-before X t kept, promoted-room X room kept-line (line-once e (r .table) ok X (waits known X w) t) (omega arith)),
+            ))
+            (stays-in-line e (r .table) ok X (waits known X w) c),
+        λ at.
+            let t = at .0 in
+            let is : c ≡ sweep t = at .1 .0 in
+            let a : Accepted e (r .table) (sweep t) = rw is at (at .1 .1) in
+            let kept-line = keptReplacements e t (r .table) X in
+            let room = freeAfter t (bucketOf e (r .table) X) in
+            rw is
+            (omega (
+              arith,
+              swept-entries e (r .table) ok X (waits known X w) t a,
+              room-promoted X room kept-line (line-proved e (r .table) ok X (waits known X w) t) (at .2) (omega (arith, at .3, ahead-before X t (at .2))),
+            )),
+      )
+
+    -- after a call: promoted, dropped by a sweep, or still in line
+    pub stays : (X : Bytes) → ProvedReplacement e X r
+        → HasEntry e X (next e (r .table) c) ⊎ (Drops e X r c ⊎ Waits X (bucketOf e (next e (r .table) c) X))
+    stays X w =
+        ⊎-elim (λ still. inr (inr still))
+        (λ swept.
+        let t = swept .0 in
+        let is : c ≡ sweep t = swept .1 .0 in
+        ⊎-elim (λ has. inl (rw is has))
+        (λ more. inr (⊎-elim (λ still. inr (rw is still)) (λ lost. inl (t, swept .1, lost)) more))
+        (after-sweep e (r .table) ok X (waits known X w) t (rw is at (swept .1 .1))))
+        (stays-in-line e (r .table) ok X (waits known X w) c)
+
+    pub dropped-no-room : (X : Bytes) → Drops e X r c → HasRoomFor e X r c → ⊥
+    dropped-no-room X drop room =
+        let t = drop .0 in
+        let t′ = room .0 in
+        let one : c ≡ sweep t = drop .1 .0 in
+        let two : c ≡ sweep t′ = room .1 .0 in
+        let same : t ≡ t′ = cc in
+        let none : length (ofKey X (keptReplacements e t′ (r .table) X)) ≡ 0 = rw same at (drop .2) in
+        omega (arith, room .2)
+
+pub waits-no-entry : (e : Env) (X : Bytes) (s : Table) → Waits X (bucketOf e s X) → HasEntry e X s → ⊥
+waits-no-entry e X s w has = omega (arith, w .no-entry)

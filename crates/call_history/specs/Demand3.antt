@@ -1,0 +1,140 @@
+-- Demand 3: what every list of calls, from a fresh table, does to a node's entry and to its stay in line.
+use Prim.Native.Nat.{ℕ, suc, _+_, _<_, _≤_}
+use mathlib.Core.Path.{_≡_}
+use mathlib.Core.Logic.{_⊎_, _↔_}
+use mathlib.Core.Bool.{true, cond}
+use mathlib.Core.List.{List, [], _∷_, _++_}
+use mathlib.Core.Option.{Option, none, some}
+use lib.ListN.{length}
+use Rattle.octets.specs.Octets.{Bytes}
+use Rattle.lists.specs.Lists.{empty, All, Rising}
+use Rattle.bucket_model.specs.Rules.{ofKey, isProved, freeAfter}
+use Rattle.call_history.specs.Model.{Env, Call, datagram, pingSent, sweep, closest, Table, bucketOf, bucketAt, next, Run, advance, run}
+use Rattle.call_history.specs.Words.{entryOf, HasEntry, IsReplacement, AcceptedSweep, OpenPing, begins, InStay, began, proved, ProvedReplacement, keptReplacements, ahead}
+
+-- the box clock reading of a call; a closest call has none, and counts as read when the last one was
+abbrev pub reading : ℕ → Call → ℕ
+reading last (datagram now unix address udp key bytes) = now
+reading last (pingSent now key address udp tcp hash) = now
+reading last (sweep now) = now
+reading last (closest target room) = last
+
+-- the readings don't fall, from `last` on
+abbrev pub NotFalling : ℕ → List Call → Type 0
+NotFalling last [] = Unit {0}
+NotFalling last (c ∷ cs) = (last ≤ reading last c) × NotFalling (reading last c) cs
+
+-- the second list is the first without some datagrams that another key than X signed, or none, every other call the same
+pub data LeftOut (X : Bytes) : List Call → List Call → Type 0 where
+  nothing : LeftOut X [] []
+  same : (c : Call) {cs ds : List Call} → LeftOut X cs ds → LeftOut X (c ∷ cs) (c ∷ ds)
+  less : (now unix : ℕ) (address : Bytes) (udp : ℕ) (key bytes : Bytes) {cs ds : List Call}
+      → (key ≡ X → ⊥) → LeftOut X cs ds → LeftOut X (datagram now unix address udp key bytes ∷ cs) ds
+
+-- a count of sweeps, with this call
+abbrev pub countSweep : Call → ℕ → ℕ
+countSweep (datagram now unix address udp key bytes) n = n
+countSweep (pingSent now key address udp tcp hash) n = n
+countSweep (sweep now) n = suc n
+countSweep (closest target room) n = n
+
+module _ (e : Env) where
+  -- the call that next takes X's entry, and how many sweeps, counted from n, came before it: no sweep is ever left out, so the
+  -- same number is the same sweep
+  abbrev pub entryLostAt : Bytes → Table → ℕ → List Call → Option (ℕ × Call)
+  entryLostAt X s n [] = none
+  entryLostAt X s n (c ∷ cs) =
+      cond (empty (entryOf e X (next e s c))) (some (n, c)) (entryLostAt X (next e s c) (countSweep c n) cs)
+
+  -- ---- the sentences of the demand, after a run r, where the call c comes next
+
+  -- "A seated node loses its seat exactly when an accepted sweep comes more than 500 ms after a ping recorded for it, with no
+  -- accepted pong from it since."
+  abbrev pub LosesEntry : Run e → Call → Type 0
+  LosesEntry r c =
+      (X : Bytes) → HasEntry e X (r .table)
+      → (HasEntry e X (next e (r .table) c) → ⊥)
+      ↔ ((t : ℕ) × AcceptedSweep e (r .table) c t × ((t₀ : ℕ) × OpenPing e X t₀ (r .log) × (t₀ + 500 < t)))
+
+  -- "While box clock readings don't fall from its seating on, nothing that another key signed, or none, unseats it: leave out any
+  -- such datagrams after its seating, every other call the same, and the same sweep unseats it next, or again none does." The run r
+  -- ends with its seating, or later while it has that entry.
+  abbrev pub Isolated : Run e → List Call → Type 0
+  Isolated r later =
+      (X : Bytes) → HasEntry e X (r .table) → NotFalling (r .table .clock) later
+      → (fewer : List Call) → LeftOut X later fewer
+      → entryLostAt X (r .table) 0 later ≡ entryLostAt X (r .table) 0 fewer
+
+  -- "No bucket ever has more than 16 seats or 4 waiting places taken, and no node stands in it twice."
+  abbrev pub Bounded : Table → Type 0
+  Bounded s =
+      (i : ℕ)
+      → (length (bucketAt e s i .entries) ≤ 16)
+      × (length (bucketAt e s i .replacements) ≤ 4)
+      × ((X : Bytes) → length (ofKey X (bucketAt e s i .entries)) + length (ofKey X (bucketAt e s i .replacements)) ≤ 1)
+
+  -- "A proved waiting node leaves the line only at a sweep."
+  abbrev pub LeavesReplacements : Run e → Call → Type 0
+  LeavesReplacements r c =
+      (X : Bytes) → ProvedReplacement e X r → (IsReplacement e X (next e (r .table) c) → ⊥) → (t : ℕ) × AcceptedSweep e (r .table) c t
+
+  -- the call is an accepted sweep that keeps X and, after its removals, has free entries for it and for every proved node still
+  -- ahead of it
+  abbrev pub HasRoomFor : Bytes → Run e → Call → Type 0
+  HasRoomFor X r c =
+      (t : ℕ) × AcceptedSweep e (r .table) c t
+      × (0 < length (ofKey X (keptReplacements e t (r .table) X)))
+      × (length (ahead e t r X) < freeAfter t (bucketOf e (r .table) X))
+
+  -- "In each stay in line, from the pong that left it there proved, it is seated at the first accepted sweep that keeps it and,
+  -- after its removals, has free seats for it and for every proved node still ahead of it, and not sooner": at each call ..
+  abbrev pub TakesEntry : Run e → Call → Type 0
+  TakesEntry r c = (X : Bytes) → ProvedReplacement e X r → HasEntry e X (next e (r .table) c) ↔ HasRoomFor X r c
+
+  -- the call is an accepted sweep that does not keep X
+  abbrev pub Drops : Bytes → Run e → Call → Type 0
+  Drops X r c = (t : ℕ) × AcceptedSweep e (r .table) c t × (length (ofKey X (keptReplacements e t (r .table) X)) ≡ 0)
+
+  -- .. and over the calls of the rest of its stay: it takes an entry at the first call that has room for it, and not sooner, unless
+  -- a sweep drops it before
+  abbrev pub InTurn : Bytes → Run e → List Call → Type 0
+  InTurn X r [] = Unit {0}
+  InTurn X r (c ∷ later) =
+      (HasRoomFor X r c × HasEntry e X (next e (r .table) c))
+      ⊎ ((HasRoomFor X r c → ⊥)
+      × (HasEntry e X (next e (r .table) c) → ⊥)
+      × (Drops X r c ⊎ (ProvedReplacement e X (advance e r c) × InTurn X (advance e r c) later)))
+
+  -- ---- what ties a stay, proved and ahead to the table
+
+  -- a node comes into a line by the ping that begins its stay, and only so
+  abbrev pub StayBegins : Run e → Call → Type 0
+  StayBegins r c =
+      (X : Bytes) → (IsReplacement e X (r .table) → ⊥)
+      → IsReplacement e X (next e (r .table) c) ↔ (begins e X (r .table) c ≡ true)
+
+  -- and while it stands in a line, it is in that stay
+  abbrev pub StayLasts : Run e → Type 0
+  StayLasts r = (X : Bytes) → IsReplacement e X (r .table) → InStay e X (r .log)
+
+  -- the proofs in a line are those of its nodes' stays
+  abbrev pub ProvedByPong : Run e → Type 0
+  ProvedByPong r = (i : ℕ) → All (λ p. isProved (p .proof) ≡ proved e (r .log) (p .key)) (bucketAt e (r .table) i .replacements)
+
+  -- a line is in the order in which its nodes' stays began
+  abbrev pub InOrder : Run e → Type 0
+  InOrder r = (i : ℕ) → Rising (λ p q. began e (r .log) (p .key) < began e (r .log) (q .key)) (bucketAt e (r .table) i .replacements)
+
+  -- Demand 3 of a whole list of calls: at each place of the list, `earlier` came before it.
+  pub record Demand3 (calls : List Call) : Type 0 where
+    pub loses-entry : (earlier later : List Call) (c : Call) → calls ≡ earlier ++ c ∷ later → LosesEntry (run e earlier) c
+    pub isolated : (earlier later : List Call) → calls ≡ earlier ++ later → Isolated (run e earlier) later
+    pub bounded : (earlier later : List Call) → calls ≡ earlier ++ later → Bounded (run e earlier .table)
+    pub leaves-replacements : (earlier later : List Call) (c : Call) → calls ≡ earlier ++ c ∷ later → LeavesReplacements (run e earlier) c
+    pub takes-entry : (earlier later : List Call) (c : Call) → calls ≡ earlier ++ c ∷ later → TakesEntry (run e earlier) c
+    pub in-turn : (earlier later : List Call) → calls ≡ earlier ++ later
+        → (X : Bytes) → ProvedReplacement e X (run e earlier) → InTurn X (run e earlier) later
+    pub stay-begins : (earlier later : List Call) (c : Call) → calls ≡ earlier ++ c ∷ later → StayBegins (run e earlier) c
+    pub stay-lasts : (earlier later : List Call) → calls ≡ earlier ++ later → StayLasts (run e earlier)
+    pub proved-by-pong : (earlier later : List Call) → calls ≡ earlier ++ later → ProvedByPong (run e earlier)
+    pub in-order : (earlier later : List Call) → calls ≡ earlier ++ later → InOrder (run e earlier)

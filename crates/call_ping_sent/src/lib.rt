@@ -1,0 +1,151 @@
+// The ping-sent call on a table in lent bytes, for any bytes.
+ghost use mathlib.Core.Path.{_≡_};
+ghost use Prim.Native.Nat.{_≤_};
+ghost use lib.ListN.{length};
+ghost use Rattle.octets.specs.Octets.{Bytes};
+ghost use Rattle.lists.specs.Lists.{first};
+ghost use Rattle.table_model.specs.Layout.{clockOf};
+ghost use Rattle.bucket.specs.Values.{contents, Bounded};
+ghost use Rattle.bucket_rules.specs.Found.{LooksUp};
+ghost use Rattle.call_history.specs.Model as model;
+ghost use Rattle.call_model.specs.Calls.{answerOn, bytesAfter};
+ghost use Rattle.call_model.specs.Reading.{reading};
+ghost use Rattle.call_touched.specs.Reached.{SoundAt};
+ghost use Rattle.call_ping_sent.specs.Steps.{keptPlace, placedAt, placed, pingSentTests, heldTests, noteNumber, afterNote};
+use bucket::Bucket;
+use bucket_rules::Lookup;
+use call_touched::Reach;
+use entry::MonotonicMillis;
+use table::Touched;
+
+// What the tests before the bucket's own find of a ping that was sent.
+pub enum Placed {
+    // The answer number, from 1 to 12.
+    NotPlaced(u8),
+    // The slot of the node's bucket.
+    In(usize),
+}
+
+// Answers 2 to 7, or 0, of a ping that was sent.
+fn ping_number(
+    table: &[u8],
+    clock: MonotonicMillis,
+    hash: &[u8],
+    touched: Touched,
+    address: &[u8],
+) -> u8
+    requires { ⌜ 512 ≤ length (now table) ⌝ }
+    ensures { λ r. ⌜ r ≡ first (pingSentTests (clockOf (now (table .entry))) (clock .0) (now (hash .entry)) touched (now (address .entry))) ⌝ }
+{
+    let last = table::clock(table);
+    if clock.0 < last.0 {
+        return 2;
+    }
+    if hash.len() != 32 {
+        return 4;
+    }
+    call_touched::key_number(touched, address)
+}
+
+fn kept_place(touched: Touched) -> Placed
+    ensures { λ r. ⌜ r ≡ keptPlace touched ⌝ }
+{
+    match touched {
+        Touched::WrongKey => Placed::NotPlaced(12),
+        Touched::Own => Placed::NotPlaced(12),
+        Touched::NotKept => Placed::NotPlaced(12),
+        Touched::Slot(slot) => Placed::In(slot),
+    }
+}
+
+// Answers 2 to 12 of a ping that was sent, or the slot of the node's bucket.
+fn place_at(
+    table: &[u8],
+    clock: MonotonicMillis,
+    hash: &[u8],
+    touched: Touched,
+    address: &[u8],
+) -> Placed
+    requires { ⌜ 512 ≤ length (now table) ⌝ }
+    ensures { λ r. ⌜ r ≡ placedAt (clockOf (now (table .entry))) (clock .0) (now (hash .entry)) touched (now (address .entry)) ⌝ }
+{
+    let n = ping_number(table, clock, hash, touched, address);
+    if n != 0 {
+        return Placed::NotPlaced(n);
+    }
+    kept_place(touched)
+}
+
+// Answers 1 to 12 of a ping that was sent, or the slot of the node's bucket.
+fn place(table: &[u8], clock: MonotonicMillis, key: &[u8], address: &[u8], hash: &[u8]) -> Placed
+    ensures { λ r. ⌜ r ≡ placed (now (table .entry)) (clock .0) (now (key .entry)) (now (address .entry)) (now (hash .entry)) ⌝ }
+{
+    let reached = call_touched::reached_by(table, key);
+    match reached {
+        Reach::Unsound => Placed::NotPlaced(1),
+        Reach::At(touched) => place_at(table, clock, hash, touched, address),
+    }
+}
+
+// Answers 16 to 18, or 0, of a ping that was sent to the node.
+fn ping_sent_number(b: Bucket, l: Lookup, address: &[u8], udp: u16) -> u8
+    requires { ⌜ Bounded b ⌝ }
+    ensures { λ r. ⌜ ((key : Bytes) → LooksUp key (contents b) l → r ≡ first (heldTests (now (address .entry)) udp key (contents b))) ⌝ }
+{
+    if l.held_elsewhere(address, udp) {
+        return 16;
+    }
+    if l.ping_out() {
+        return 17;
+    }
+    let replacements = b.replacements;
+    if l.no_room(replacements.len) {
+        return 18;
+    }
+    0
+}
+
+// A ping that was sent is noted in the bucket in its node's slot: answers 16 to 18, or 0 and the bucket and the clock are written.
+fn note(
+    table: &mut [u8],
+    slot: usize,
+    clock: MonotonicMillis,
+    key: &[u8],
+    address: &[u8],
+    udp: u16,
+    tcp: u16,
+    hash: &[u8],
+) -> u8
+    requires { ⌜ SoundAt (now table) slot × ((length (now key) ≡ 64) × ((length (now address) ≤ 16) × (length (now hash) ≡ 32))) ⌝ }
+    ensures { λ r. ⌜ r ≡ noteNumber (now (table .entry)) slot (now (address .entry)) udp (now (key .entry)) ⌝ }
+    ensures { λ r. ⌜ now (table .exit) ≡ afterNote (now (table .entry)) slot (clock .0) (now (key .entry)) (now (address .entry)) udp tcp (now (hash .entry)) ⌝ }
+{
+    let b = call_touched::bucket_in(table, slot);
+    let l = bucket_rules::look_up(b, key);
+    let refused = ping_sent_number(b, l, address, udp);
+    if refused != 0 {
+        return refused;
+    }
+    let pinged = bucket_rules::ping_sent(b, key, address, udp, tcp, hash, clock);
+    call_touched::put(table, slot, pinged, clock);
+    0
+}
+
+// A ping with this hash went out to a node. The answer number.
+pub fn ping_sent_on(
+    table: &mut [u8],
+    clock: MonotonicMillis,
+    key: &[u8],
+    address: &[u8],
+    udp: u16,
+    tcp: u16,
+    hash: &[u8],
+) -> u8
+    ensures { λ r. ⌜ r ≡ answerOn reading (now (table .entry)) (model.pingSent (clock .0) (now (key .entry)) (now (address .entry)) udp tcp (now (hash .entry))) ⌝ }
+    ensures { λ r. ⌜ now (table .exit) ≡ bytesAfter reading (now (table .entry)) (model.pingSent (clock .0) (now (key .entry)) (now (address .entry)) udp tcp (now (hash .entry))) ⌝ }
+{
+    match place(table, clock, key, address, hash) {
+        Placed::NotPlaced(n) => n,
+        Placed::In(slot) => note(table, slot, clock, key, address, udp, tcp, hash),
+    }
+}

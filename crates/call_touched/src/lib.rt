@@ -1,0 +1,112 @@
+// The bucket that a key touches, of a table in lent bytes: where a key leads, the answers to a key and an address, and the bucket taken out and
+// put back.
+ghost use mathlib.Core.Path.{_≡_};
+ghost use mathlib.Core.Bool.{true};
+ghost use Prim.Native.Nat.{_+_, _≤_};
+ghost use lib.ListN.{length};
+ghost use Rattle.lists.specs.Lists.{first};
+ghost use Rattle.table_model.specs.Layout.{countOf, offsetOf, bucketAt, headerSound};
+ghost use Rattle.bucket.specs.Values.{contents, Shows, Bounded};
+ghost use Rattle.bucket_rules.specs.Found.{Ready};
+ghost use Rattle.call_history.specs.Model as model;
+ghost use Rattle.call_touched.specs.Reached.{touchedSound, Below, reached, isWrongKey, isOwnKey, keyTests, SoundAt, withBucket};
+use bucket::Bucket;
+use entry::MonotonicMillis;
+use table::Touched;
+
+// Where a key leads.
+pub enum Reach {
+    // Answer 1: the header, or the bucket that the key touches, is not sound.
+    Unsound,
+    At(Touched),
+}
+
+// Whether the bucket that a key touches, if any, is sound.
+fn touched_sound(table: &[u8], touched: Touched) -> bool
+    requires { ⌜ (headerSound (now table) ≡ true) × Below (countOf (now table)) touched ⌝ }
+    ensures { λ r. ⌜ r ≡ touchedSound (now (table .entry)) touched ⌝ }
+{
+    match touched {
+        Touched::WrongKey => true,
+        Touched::Own => true,
+        Touched::NotKept => true,
+        Touched::Slot(slot) => table_sound::slot_sound(table, slot),
+    }
+}
+
+pub fn reached_by(table: &[u8], key: &[u8]) -> Reach
+    ensures { λ r. ⌜ r ≡ reached (now (table .entry)) (now (key .entry)) ⌝ }
+{
+    if !table::header_sound(table) {
+        return Reach::Unsound;
+    }
+    let touched = table::touched_by(table, key);
+    if touched_sound(table, touched) {
+        return Reach::At(touched);
+    }
+    Reach::Unsound
+}
+
+fn is_wrong_key(touched: Touched) -> bool
+    ensures { λ r. ⌜ r ≡ isWrongKey touched ⌝ }
+{
+    match touched {
+        Touched::WrongKey => true,
+        Touched::Own => false,
+        Touched::NotKept => false,
+        Touched::Slot(_) => false,
+    }
+}
+
+fn is_own_key(touched: Touched) -> bool
+    ensures { λ r. ⌜ r ≡ isOwnKey touched ⌝ }
+{
+    match touched {
+        Touched::WrongKey => false,
+        Touched::Own => true,
+        Touched::NotKept => false,
+        Touched::Slot(_) => false,
+    }
+}
+
+fn is_address(address: &[u8]) -> bool
+    ensures { λ r. ⌜ r ≡ model.isAddress (now (address .entry)) ⌝ }
+{
+    if address.len() == 4 {
+        return true;
+    }
+    address.len() == 16
+}
+
+// Answers 5 to 7, or 0.
+pub fn key_number(touched: Touched, address: &[u8]) -> u8
+    ensures { λ r. ⌜ r ≡ first (keyTests touched (now (address .entry))) ⌝ }
+{
+    if is_wrong_key(touched) {
+        return 5;
+    }
+    if !is_address(address) {
+        return 6;
+    }
+    if is_own_key(touched) {
+        return 7;
+    }
+    0
+}
+
+// The bucket in a slot, where it is sound.
+pub fn bucket_in(table: &[u8], slot: usize) -> Bucket
+    requires { ⌜ SoundAt (now table) slot ⌝ }
+    ensures { λ r. ⌜ Shows r (bucketAt (now (table .entry)) slot) × Ready r ⌝ }
+{
+    Bucket::load(table, table::HEADER_SIZE + slot * table::BUCKET_SIZE)
+}
+
+// Writes a bucket into its slot, and the clock; no other byte changes.
+pub fn put(table: &mut [u8], slot: usize, b: Bucket, clock: MonotonicMillis)
+    requires { ⌜ (offsetOf (slot + 1) ≤ length (now table)) × Bounded b ⌝ }
+    ensures { λ _. ⌜ now (table .exit) ≡ withBucket (now (table .entry)) slot (contents b) (clock .0) ⌝ }
+{
+    b.store(table, table::HEADER_SIZE + slot * table::BUCKET_SIZE);
+    table::set_clock(table, clock);
+}

@@ -1,0 +1,85 @@
+-- The fields of a packet as numbers in fixed places: type; version; expiration; enr-seq: present, value; from: start, length, UDP, TCP;
+-- to: start, length, UDP; hash: start, length; target: start, length; nodes: start, length; record: start, length. A field that the packet
+-- does not have is 0.
+use Prim.Native.Nat.{ℕ}
+use mathlib.Core.List.{List, [], _∷_}
+use Rattle.entry.specs.declared.Node.{Node}
+use Rattle.packet_model.specs.declared.EnrSeq.{EnrSeq}
+use Rattle.packet_model.specs.declared.EnrSeq.the-variants.{Absent, Present}
+use Rattle.packet.specs.declared.Packet.{Packet}
+use Rattle.packet.specs.declared.Packet.the-variants as packet
+use Rattle.packet.specs.declared.Ping.{Ping}
+use Rattle.packet.specs.declared.Pong.{Pong}
+use Rattle.packet.specs.declared.FindNode.{FindNode}
+use Rattle.packet.specs.declared.Neighbors.{Neighbors}
+use Rattle.packet.specs.declared.EnrRequest.{EnrRequest}
+use Rattle.packet.specs.declared.EnrResponse.{EnrResponse}
+use Rattle.capi_packet.specs.declared.FlatNode.{FlatNode}
+
+abbrev pub seqPresent : EnrSeq → ℕ
+seqPresent Absent = 0
+seqPresent (Present n) = 1
+
+abbrev pub seqValue : EnrSeq → ℕ
+seqValue Absent = 0
+seqValue (Present n) = n
+
+abbrev pub flatPing : Ping → List ℕ
+flatPing p =
+    1 ∷ p .version ∷ p .expiration ∷ seqPresent (p .«enr_seq») ∷ seqValue (p .«enr_seq»)
+    ∷ p .from .address .start ∷ p .from .address .len ∷ p .from .udp ∷ p .from .tcp
+    ∷ p .to .address .start ∷ p .to .address .len ∷ p .to .udp
+    ∷ 0 ∷ 0 ∷ 0 ∷ 0 ∷ 0 ∷ 0 ∷ 0 ∷ 0 ∷ []
+
+abbrev pub flatPong : Pong → List ℕ
+flatPong p =
+    2 ∷ 0 ∷ p .expiration ∷ seqPresent (p .«enr_seq») ∷ seqValue (p .«enr_seq»)
+    ∷ 0 ∷ 0 ∷ 0 ∷ 0
+    ∷ p .to .address .start ∷ p .to .address .len ∷ p .to .udp
+    ∷ p .«ping_hash» .start ∷ p .«ping_hash» .len ∷ 0 ∷ 0 ∷ 0 ∷ 0 ∷ 0 ∷ 0 ∷ []
+
+abbrev pub flatFindNode : FindNode → List ℕ
+flatFindNode p =
+    3 ∷ 0 ∷ p .expiration ∷ 0 ∷ 0 ∷ 0 ∷ 0 ∷ 0 ∷ 0 ∷ 0 ∷ 0 ∷ 0 ∷ 0 ∷ 0
+    ∷ p .target .start ∷ p .target .len ∷ 0 ∷ 0 ∷ 0 ∷ 0 ∷ []
+
+abbrev pub flatNeighbors : Neighbors → List ℕ
+flatNeighbors p =
+    4 ∷ 0 ∷ p .expiration ∷ 0 ∷ 0 ∷ 0 ∷ 0 ∷ 0 ∷ 0 ∷ 0 ∷ 0 ∷ 0 ∷ 0 ∷ 0 ∷ 0 ∷ 0
+    ∷ p .nodes .start ∷ p .nodes .len ∷ 0 ∷ 0 ∷ []
+
+abbrev pub flatEnrRequest : EnrRequest → List ℕ
+flatEnrRequest p = 5 ∷ 0 ∷ p .expiration ∷ 0 ∷ 0 ∷ 0 ∷ 0 ∷ 0 ∷ 0 ∷ 0 ∷ 0 ∷ 0 ∷ 0 ∷ 0 ∷ 0 ∷ 0 ∷ 0 ∷ 0 ∷ 0 ∷ 0 ∷ []
+
+abbrev pub flatEnrResponse : EnrResponse → List ℕ
+flatEnrResponse p =
+    6 ∷ 0 ∷ 0 ∷ 0 ∷ 0 ∷ 0 ∷ 0 ∷ 0 ∷ 0 ∷ 0 ∷ 0 ∷ 0
+    ∷ p .«request_hash» .start ∷ p .«request_hash» .len ∷ 0 ∷ 0 ∷ 0 ∷ 0 ∷ p .«record» .start ∷ p .«record» .len ∷ []
+
+-- the answer number of reading: 0, or 8, 9 or 10
+abbrev pub readNumber : Packet → ℕ
+readNumber (packet.Ping p) = 0
+readNumber (packet.Pong p) = 0
+readNumber (packet.FindNode p) = 0
+readNumber (packet.Neighbors p) = 0
+readNumber (packet.EnrRequest p) = 0
+readNumber (packet.EnrResponse p) = 0
+readNumber (packet.Refused n) = n
+
+-- the lent places after reading: a refused packet leaves them
+abbrev pub fieldsAfter : Packet → List ℕ → List ℕ
+fieldsAfter (packet.Ping p) old = flatPing p
+fieldsAfter (packet.Pong p) old = flatPong p
+fieldsAfter (packet.FindNode p) old = flatFindNode p
+fieldsAfter (packet.Neighbors p) old = flatNeighbors p
+fieldsAfter (packet.EnrRequest p) old = flatEnrRequest p
+fieldsAfter (packet.EnrResponse p) old = flatEnrResponse p
+fieldsAfter (packet.Refused n) old = old
+
+-- a node's numbers: address length, UDP port, TCP port
+abbrev pub nodeNumbers : Node → List ℕ
+nodeNumbers n = n .endpoint .len ∷ n .endpoint .udp ∷ n .endpoint .tcp ∷ []
+
+-- a node, with its key and its address beside them
+abbrev pub flatNode : Node → FlatNode
+flatNode n = record { key = n .key; address = n .endpoint .address; numbers = nodeNumbers n }

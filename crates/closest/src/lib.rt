@@ -1,0 +1,52 @@
+// The closest call of the public library: the nodes nearest to a target, written into a list that the caller lends.
+ghost use mathlib.Core.Path.{_≡_};
+ghost use Prim.Native.Nat.{_≤_};
+ghost use lib.ListN.{length};
+ghost use Rattle.closest_nodes.specs.Closest.{listed, listAfter, withChosen};
+ghost use Rattle.closest.specs.ByValue.{found};
+use closest_choice::Choice;
+use closest_nodes::Listed;
+use entry::Node;
+
+// Writes the nodes that were chosen to the front of the list, and leaves the rest of it.
+fn store_nodes(list: &mut [Node], table: &[u8], choice: Choice)
+    requires { ⌜ (choice .nearest .count ≤ 16) × (choice .nearest .count ≤ length (now list)) ⌝ }
+    ensures { λ _. ⌜ now (list .exit) ≡ withChosen (now (table .entry)) choice (now (list .entry)) ⌝ }
+{
+    let mut i = 0;
+    while i < choice.nearest.count {
+        list[i] = closest_nodes::chosen_node(table, choice, i);
+        i += 1;
+    }
+}
+
+// Writes the nodes nearest to the target, nearest first, to the front of the list that the caller lends. A list of fewer than sixteen
+// records is refused.
+pub fn closest(list: &mut [Node], table: &[u8], target: &[u8]) -> Listed
+    ensures { λ r. ⌜ (r ≡ listed (now (table .entry)) (now (target .entry)) (length (now (list .entry))))
+        × (now (list .exit) ≡ listAfter (now (table .entry)) (now (target .entry)) (now (list .entry))) ⌝ }
+{
+    let choice = closest_choice::closest_on(table, target, list.len());
+    store_nodes(list, table, choice);
+    closest_nodes::number_and_count(choice)
+}
+
+// What a closest call answers, and the list after it.
+pub struct Found {
+    pub number: u8,
+    pub count: usize,
+    pub nodes: [Node; 16],
+}
+
+// A closest call with the list by value.
+pub fn closest_with(list: [Node; 16], table: &[u8], target: &[u8]) -> Found
+    ensures { λ r. ⌜ r ≡ found (now (table .entry)) (now (target .entry)) list ⌝ }
+{
+    let mut nodes = list;
+    let answer = closest(&mut nodes, table, target);
+    Found {
+        number: answer.number,
+        count: answer.count,
+        nodes,
+    }
+}

@@ -1,0 +1,108 @@
+// The first line of a log, `own`: a fresh table in the first bytes of a lent memory, and the answer written into lent bytes.
+ghost use mathlib.Core.Path.{_≡_};
+ghost use mathlib.Core.Bool.{false, cond};
+ghost use Prim.Native.Nat.{_+_, _≤_};
+ghost use lib.Dec.{eqb};
+ghost use lib.ListN.{length};
+ghost use Rattle.octets.specs.Octets.{store};
+ghost use Rattle.table.specs.Init.{freshTable};
+ghost use Rattle.log_line.specs.Fields.{said};
+ghost use Rattle.log_answer.specs.AnswerRows.{answerRoom, numberRow};
+ghost use Rattle.log_own.specs.OwnLine.{ownNumber, ownAnswer, ownAfter};
+ghost use Rattle.log_own.specs.Answered.{sizeOf, stateOf, Answered};
+use log_answer::put_number;
+use log_line::Span;
+use log_line::decode_field;
+
+// The bytes that a table of 16 buckets takes, the most of a replayed table.
+pub const MEMORY: usize = 46304;
+
+// `owned`: a well-formed `own` has come. `count`: the buckets of the table, 0 where no `own` was accepted.
+pub struct Replay {
+    pub owned: bool,
+    pub count: usize,
+}
+
+// A line was answered with `len` bytes.
+pub struct Stepped {
+    pub replay: Replay,
+    pub len: usize,
+}
+
+impl Replay {
+    // Before the first line.
+    pub fn new() -> Self
+        ensures { λ r. ⌜ r ≡ record { owned = false; count = 0 } ⌝ }
+    {
+        Replay {
+            owned: false,
+            count: 0,
+        }
+    }
+
+    // The bytes of the table.
+    pub fn size(self) -> usize
+        requires { ⌜ self .count ≤ 16 ⌝ }
+        ensures size { λ r. ⌜ r ≡ sizeOf (self .count) ⌝ }
+        ensures most { λ r. ⌜ r ≤ 46304 ⌝ }
+    {
+        let count = self.count;
+        if count == 0 {
+            return 0;
+        }
+        table::HEADER_SIZE + count * table::BUCKET_SIZE
+    }
+}
+
+// The first `own`: a fresh table, or the answer number and no byte is written.
+fn make(memory: &mut [u8], key: &[u8], buckets: u64) -> u8
+    requires { ⌜ 46304 ≤ length (now memory) ⌝ }
+    ensures number { λ r. ⌜ r ≡ ownNumber buckets (now (key .entry)) ⌝ }
+    ensures bytes { λ r. ⌜ now (memory .exit) ≡ cond (eqb r 0) (store (now (memory .entry)) 0 (freshTable (now (key .entry)) buckets)) (now (memory .entry)) ⌝ }
+{
+    if buckets < 1 {
+        return 1;
+    }
+    if 16 < buckets {
+        return 1;
+    }
+    let count = buckets as usize;
+    let size = table::HEADER_SIZE + count * table::BUCKET_SIZE;
+    table::init(&mut memory[0..size], key, count)
+}
+
+// `own`, buckets, key.
+pub fn own(
+    memory: &mut [u8],
+    out: &mut [u8],
+    replay: Replay,
+    line: &[u8],
+    buckets: u64,
+    key: Span,
+) -> Stepped
+    requires { ⌜ (46304 ≤ length (now memory)) × ((answerRoom ≤ length (now out)) × ((replay .count ≤ 16) × ((length (now line) ≤ 3000) × (key .start + key .len ≤ length (now line))))) ⌝ }
+    ensures { λ r. ⌜ Answered (ownAfter (stateOf replay (now (memory .entry))) buckets (said (now (line .entry)) key)) (numberRow (ownAnswer (stateOf replay (now (memory .entry))) buckets (said (now (line .entry)) key))) (now (memory .entry)) (now (out .entry)) r (now (memory .exit)) (now (out .exit)) ⌝ }
+{
+    if replay.owned {
+        let len = put_number(out, 21);
+        return Stepped { replay, len };
+    }
+    let mut bytes = [0u8; 1500];
+    let n = decode_field(line, key, &mut bytes);
+    let number = make(memory, &bytes[0..n], buckets);
+    let len = put_number(out, number);
+    let count = replay.count;
+    if number == 0 {
+        return Stepped {
+            replay: Replay {
+                owned: true,
+                count: buckets as usize,
+            },
+            len,
+        };
+    }
+    Stepped {
+        replay: Replay { owned: true, count },
+        len,
+    }
+}

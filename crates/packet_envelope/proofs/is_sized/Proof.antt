@@ -1,0 +1,17 @@
+-- `packet_envelope::is_sized` meets its contract. Assumes nothing.
+use borrow.Author.Tests.{le-leb, lt-leb}
+use Rattle.packet_envelope.proofs.is_sized.Statement.{statement}
+use Rattle.packet_envelope.proofs.is_sized.Tie as tie
+
+returns : tie.Need-returns
+returns c = rw (le-leb 98 _ (c .if1 .taken))
+
+returns-2 : tie.Need-returns-2
+returns-2 c = rw (lt-leb 98 _ (c .if1 .left))
+
+pub is-sized-spec : {M : Type 1} → statement M
+is-sized-spec =
+    tie.close
+    (tie.spec
+    returns
+    returns-2)

@@ -1,0 +1,5 @@
+pub mod SchemaItemsTurns
+pub mod Payload
+pub mod Turns
+pub mod Shapes
+pub mod Accepted

@@ -1,0 +1,4 @@
+pub mod Payload
+pub mod Kinds
+pub mod Schema
+pub mod Shapes

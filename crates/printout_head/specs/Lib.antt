@@ -1,2 +1,0 @@
-pub mod TableRow
-pub mod Held

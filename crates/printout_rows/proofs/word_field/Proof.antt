@@ -1,0 +1,20 @@
+-- `printout_rows::word_field` meets its contract. Assumes nothing.
+use mathlib.Core.Path.{refl, _∙_}
+use native.Mathlib.Omega.{arith}
+use lib.ListN.{length-set}
+use Rattle.octets.proofs.Writing.{wrote-cons}
+use borrow.Author.Needs.{needs}
+use Rattle.printout_rows.proofs.word_field.Statement.{statement}
+use Rattle.printout_rows.proofs.word_field.Tie as tie
+
+put-word-requires : tie.Need-put-word-requires
+put-word-requires c κs = simp length-set (omega arith)
+
+same-length : tie.Need-same-length
+same-length c = let a = c .before .before .before .before .before .before .args in c .before .before .put-word .kept .0 ∙ length-set (a .out .now) (a .at) 0x09
+
+returns : tie.Need-returns
+returns c = let a = c .before .before .before .before .before .before .args in wrote-cons (a .out .now) (a .at) 0x09 (a .word .now) _ _ _ refl (c .before .before .put-word .ensures)
+
+pub word-field-spec : {M : Type 1} → statement M
+word-field-spec = tie.close (tie.spec (λ c. search needs) (λ c. search needs) put-word-requires same-length returns)

@@ -1,2 +1,0 @@
-pub mod Schema
-pub mod Shapes
