@@ -12,27 +12,6 @@ use Rattle.bucket.proofs.store_list.Tie as tie
 items-size : (c : tie.Start) → length (c .args .l .items) ≡ 16
 items-size c = search (needs, length-mapped)
 
-store-entries-requires : tie.Need-store-entries-requires
-store-entries-requires c κs = search needs
-
-mul-put-zeros : tie.Need-mul-put-zeros
-mul-put-zeros c = search needs
-
-add-put-zeros : tie.Need-add-put-zeros
-add-put-zeros c = search needs
-
-sub-put-zeros : tie.Need-sub-put-zeros
-sub-put-zeros c = search needs
-
-mul-put-zeros-2 : tie.Need-mul-put-zeros-2
-mul-put-zeros-2 c = search needs
-
-put-zeros-requires : tie.Need-put-zeros-requires
-put-zeros-requires c κs = search needs
-
-same-length : tie.Need-same-length
-same-length c = search needs
-
 returns : tie.Need-returns
 returns c =
     let call = c .before .before .before .before .before .before .store-entries in
@@ -46,11 +25,11 @@ pub store-list-spec : {M : Type 1} → statement M
 store-list-spec =
     tie.close
     (tie.spec
-    store-entries-requires
-    mul-put-zeros
-    add-put-zeros
-    sub-put-zeros
-    mul-put-zeros-2
-    put-zeros-requires
-    same-length
+    (λ c κs. search needs)
+    (λ c. search needs)
+    (λ c. search needs)
+    (λ c. search needs)
+    (λ c. search needs)
+    (λ c κs. search needs)
+    (λ c. search needs)
     returns)

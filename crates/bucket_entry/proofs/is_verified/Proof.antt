@@ -4,17 +4,8 @@ use borrow.Author.Needs.{needs}
 use Rattle.bucket_entry.proofs.is_verified.Statement.{statement}
 use Rattle.bucket_entry.proofs.is_verified.Tie as tie
 
-is-at-requires : tie.Need-is-at-requires
-is-at-requires c κs = search needs
-
-proof-holds-requires : tie.Need-proof-holds-requires
-proof-holds-requires c κs = search needs
-
-both-requires : tie.Need-both-requires
-both-requires c κs = search needs
-
 returns : tie.Need-returns
 returns c = joined (c .both .ensures) (c .before .before .is-at .ensures) (c .before .proof-holds .ensures)
 
 pub is-verified-spec : {M : Type 1} → statement M
-is-verified-spec = tie.close (tie.spec is-at-requires proof-holds-requires both-requires returns)
+is-verified-spec = tie.close (tie.spec (λ c κs. search needs) (λ c κs. search needs) (λ c κs. search needs) returns)

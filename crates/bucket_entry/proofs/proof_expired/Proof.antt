@@ -6,21 +6,9 @@ use borrow.Author.Needs.{needs}
 use Rattle.bucket_entry.proofs.proof_expired.Statement.{statement}
 use Rattle.bucket_entry.proofs.proof_expired.Tie as tie
 
-enum-told : tie.Need-enum-told
-enum-told c = search needs
-
-enum-known-proof : tie.Need-enum-known-proof
-enum-known-proof c = search needs
-
-since-requires : tie.Need-since-requires
-since-requires c κs = search needs
-
-returns : tie.Need-returns
-returns c = search needs
-
 returns-2 : tie.Need-returns-2
 returns-2 c = ap (λ n. ltb 43200000 n) (c .since .ensures) ∙ sym (ap (proofExpired (c .before .before .before .before .args .clock .0)) (c .before .before .proof .given .1))
 
 pub proof-expired-spec : {M : Type 1} → statement M
 proof-expired-spec =
-    tie.close (tie.spec enum-told enum-known-proof since-requires returns returns-2)
+    tie.close (tie.spec (λ c. search needs) (λ c. search needs) (λ c κs. search needs) (λ c. search needs) returns-2)

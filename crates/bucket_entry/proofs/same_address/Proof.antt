@@ -12,26 +12,11 @@ use Rattle.bucket_entry.proofs.same_address.Tie as tie
 size : (c : tie.Start) → length (c .args .e .address) ≡ 16
 size c = search needs
 
-cast-len : tie.Need-cast-len
-cast-len c = search needs
-
 array-share-prefix-held : tie.Need-array-share-prefix-held
 array-share-prefix-held c = omega (arith, size (c .before .before .before .before))
 
 slice-aggregate-same-bytes : tie.Need-slice-aggregate-same-bytes
 slice-aggregate-same-bytes c = sym (length-take-le _ _ (omega (arith, size (c .before .before .before .before .before))))
-
-same-bytes-requires : tie.Need-same-bytes-requires
-same-bytes-requires c κs = search needs
-
-returns : tie.Need-returns
-returns c = search needs
-
-slice-aggregate-same-bytes-2 : tie.Need-slice-aggregate-same-bytes-2
-slice-aggregate-same-bytes-2 c = search needs
-
-same-bytes-requires-2 : tie.Need-same-bytes-requires-2
-same-bytes-requires-2 c κs = search needs
 
 returns-2 : tie.Need-returns-2
 returns-2 c = let start = c .before .before .before .before .before .before in
@@ -41,11 +26,11 @@ pub same-address-spec : {M : Type 1} → statement M
 same-address-spec =
     tie.close
     (tie.spec
-    cast-len
+    (λ c. search needs)
     array-share-prefix-held
     slice-aggregate-same-bytes
-    same-bytes-requires
-    returns
-    slice-aggregate-same-bytes-2
-    same-bytes-requires-2
+    (λ c κs. search needs)
+    (λ c. search needs)
+    (λ c. search needs)
+    (λ c κs. search needs)
     returns-2)

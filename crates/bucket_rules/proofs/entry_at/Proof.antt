@@ -15,23 +15,11 @@ entries-size c = search (needs, length-mapped)
 replacements-size : (c : tie.Start) → length (c .args .b .replacements .items) ≡ 16
 replacements-size c = search (needs, length-mapped)
 
-enum-told : tie.Need-enum-told
-enum-told c = search needs
-
-empty-requires : tie.Need-empty-requires
-empty-requires c κs = search needs
-
-enum-known-at : tie.Need-enum-known-at
-enum-known-at c = search needs
-
 mul-result : tie.Need-mul-result
 mul-result c = omega (arith, in-entries (c .before .before .before .before .args .b) (entries-size (c .before .before .before .before)) (replacements-size (c .before .before .before .before)) (c .before .before .before .before .pre .0) (c .before .before .before .before .pre .1) (c .before .before .at .given .1), c .before .before .before .before .pre .0 .entries)
 
 element-copy-out-result : tie.Need-element-copy-out-result
 element-copy-out-result c = omega (arith, in-entries (c .before .before .before .before .args .b) (entries-size (c .before .before .before .before)) (replacements-size (c .before .before .before .before)) (c .before .before .before .before .pre .0) (c .before .before .before .before .pre .1) (c .before .before .at .given .1), c .before .before .before .before .pre .0 .entries)
-
-enum-known-at-2 : tie.Need-enum-known-at-2
-enum-known-at-2 c = search needs
 
 mul-result-2 : tie.Need-mul-result-2
 mul-result-2 c = omega (arith, in-replacements (c .before .before .before .before .args .b) (entries-size (c .before .before .before .before)) (replacements-size (c .before .before .before .before)) (c .before .before .before .before .pre .0) (c .before .before .before .before .pre .1) (c .before .before .at2 .given .1), c .before .before .before .before .pre .0 .replacements)
@@ -52,12 +40,12 @@ pub entry-at-spec : {M : Type 1} → statement M
 entry-at-spec =
     tie.close
     (tie.spec
-    enum-told
-    empty-requires
-    enum-known-at
+    (λ c. search needs)
+    (λ c κs. search needs)
+    (λ c. search needs)
     mul-result
     element-copy-out-result
-    enum-known-at-2
+    (λ c. search needs)
     mul-result-2
     element-copy-out-result-2
     returns

@@ -5,11 +5,8 @@ use borrow.Author.Needs.{needs}
 use Rattle.bucket_rules.proofs.head.Statement.{statement}
 use Rattle.bucket_rules.proofs.head.Tie as tie
 
-element-copy-out-result : tie.Need-element-copy-out-result
-element-copy-out-result c = search needs
-
 returns : tie.Need-returns
 returns c = sym (getD-take _ _ 0 _ (c .before .before .pre .0))
 
 pub head-spec : {M : Type 1} → statement M
-head-spec = tie.close (tie.spec element-copy-out-result returns)
+head-spec = tie.close (tie.spec (λ c. search needs) returns)

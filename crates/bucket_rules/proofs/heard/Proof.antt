@@ -6,12 +6,6 @@ use borrow.Author.Needs.{needs}
 use Rattle.bucket_rules.proofs.heard.Statement.{statement}
 use Rattle.bucket_rules.proofs.heard.Tie as tie
 
-look-up-requires : tie.Need-look-up-requires
-look-up-requires c κs = search needs
-
-heard-requires : tie.Need-heard-requires
-heard-requires c κs = search needs
-
 tail-at-requires : tie.Need-tail-at-requires
 tail-at-requires c κs = let start = c .before .before .before .before in
     (start .pre .bounded, rw (c .before .before .look-up .ensures .position) (within (start .args .key .now) (contents (start .args .b)) (start .pre .keys)))
@@ -23,4 +17,4 @@ returns c = let start = c .before .before .before .before .before in
     (c .tail-at .ensures)
 
 pub heard-spec : {M : Type 1} → statement M
-heard-spec = tie.close (tie.spec look-up-requires heard-requires tail-at-requires returns)
+heard-spec = tie.close (tie.spec (λ c κs. search needs) (λ c κs. search needs) tail-at-requires returns)

@@ -14,11 +14,8 @@ entries-size c = search (needs, length-mapped)
 replacements-size : (c : tie.Start) → length (c .args .b .replacements .items) ≡ 16
 replacements-size c = search (needs, length-mapped)
 
-push-requires : tie.Need-push-requires
-push-requires c κs = search needs
-
 returns : tie.Need-returns
 returns c = with-replacements (c .before .before .before .args .b) (entries-size (c .before .before .before)) (replacements-size (c .before .before .before)) (c .before .before .before .pre) (c .push .result) _ (c .push .ensures)
 
 pub join-line-spec : {M : Type 1} → statement M
-join-line-spec = tie.close (tie.spec push-requires returns)
+join-line-spec = tie.close (tie.spec (λ c κs. search needs) returns)

@@ -5,9 +5,6 @@ use borrow.Author.Needs.{needs}
 use Rattle.bucket_rules.proofs.look_up.Statement.{statement}
 use Rattle.bucket_rules.proofs.look_up.Tie as tie
 
-find-requires : tie.Need-find-requires
-find-requires c κs = search needs
-
 entry-at-requires : tie.Need-entry-at-requires
 entry-at-requires c κs = let start = c .before .before in
     (start .pre .bounded, rw (c .find .ensures) (within (start .args .key .now) (contents (start .args .b)) (start .pre .keys)))
@@ -17,4 +14,4 @@ returns c = let start = c .before .before .before in
     looked-up (start .args .key .now) (contents (start .args .b)) _ (start .pre .keys) (c .before .find .ensures) (c .entry-at .ensures)
 
 pub look-up-spec : {M : Type 1} → statement M
-look-up-spec = tie.close (tie.spec find-requires entry-at-requires returns)
+look-up-spec = tie.close (tie.spec (λ c κs. search needs) entry-at-requires returns)

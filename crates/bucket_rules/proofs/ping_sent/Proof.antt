@@ -7,15 +7,6 @@ use borrow.Author.Needs.{needs}
 use Rattle.bucket_rules.proofs.ping_sent.Statement.{statement}
 use Rattle.bucket_rules.proofs.ping_sent.Tie as tie
 
-look-up-requires : tie.Need-look-up-requires
-look-up-requires c κs = search needs
-
-is-held-requires : tie.Need-is-held-requires
-is-held-requires c κs = search needs
-
-pinged-requires : tie.Need-pinged-requires
-pinged-requires c κs = search needs
-
 put-at-requires : tie.Need-put-at-requires
 put-at-requires c κs = let start = c .before .before .before .before .before .before .before .before in
     (start .pre .0 .bounded, rw (c .before .before .before .before .look-up .ensures .position) (within (start .args .key .now) (contents (start .args .b)) (start .pre .0 .keys)))
@@ -30,12 +21,6 @@ returns c = let start = c .before .before .before .before .before .before .befor
       ← c .before .pinged .ensures,
     )
     (c .put-at .ensures)
-
-new-entry-requires : tie.Need-new-entry-requires
-new-entry-requires c κs = search needs
-
-join-line-requires : tie.Need-join-line-requires
-join-line-requires c κs = search needs
 
 returns-2 : tie.Need-returns-2
 returns-2 c = let start = c .before .before .before .before .before .before .before .before in
@@ -52,11 +37,11 @@ pub ping-sent-spec : {M : Type 1} → statement M
 ping-sent-spec =
     tie.close
     (tie.spec
-    look-up-requires
-    is-held-requires
-    pinged-requires
+    (λ c κs. search needs)
+    (λ c κs. search needs)
+    (λ c κs. search needs)
     put-at-requires
     returns
-    new-entry-requires
-    join-line-requires
+    (λ c κs. search needs)
+    (λ c κs. search needs)
     returns-2)

@@ -6,12 +6,6 @@ use borrow.Author.Needs.{needs}
 use Rattle.bucket_rules.proofs.pong.Statement.{statement}
 use Rattle.bucket_rules.proofs.pong.Tie as tie
 
-look-up-requires : tie.Need-look-up-requires
-look-up-requires c κs = search needs
-
-ponged-requires : tie.Need-ponged-requires
-ponged-requires c κs = search needs
-
 promote-at-requires : tie.Need-promote-at-requires
 promote-at-requires c κs = let start = c .before .before .before .before in
     (start .pre .bounded, rw (c .before .before .look-up .ensures .position) (within (start .args .key .now) (contents (start .args .b)) (start .pre .keys)))
@@ -23,4 +17,4 @@ returns c = let start = c .before .before .before .before .before in
     (c .promote-at .ensures)
 
 pub pong-spec : {M : Type 1} → statement M
-pong-spec = tie.close (tie.spec look-up-requires ponged-requires promote-at-requires returns)
+pong-spec = tie.close (tie.spec (λ c κs. search needs) (λ c κs. search needs) promote-at-requires returns)

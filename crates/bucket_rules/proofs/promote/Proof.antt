@@ -14,21 +14,12 @@ entries-size c = search (needs, length-mapped)
 replacements-size : (c : tie.Start) → length (c .args .b .replacements .items) ≡ 16
 replacements-size c = search (needs, length-mapped)
 
-push-requires : tie.Need-push-requires
-push-requires c κs = search needs
-
-remove-requires : tie.Need-remove-requires
-remove-requires c κs = search needs
-
 returns : tie.Need-returns
 returns c = promoted-free (c .before .before .before .before .before .before .args .b) (entries-size (c .before .before .before .before .before .before)) (replacements-size (c .before .before .before .before .before .before)) (c .before .before .before .before .before .before .pre .0) (c .before .before .before .before .before .before .args .i) (c .before .before .before .before .before .before .args .e) (c .before .push .result) (c .remove .result) (c .before .before .if1 .taken) (c .before .push .ensures) (c .remove .ensures)
-
-replace-requires : tie.Need-replace-requires
-replace-requires c κs = search needs
 
 returns-2 : tie.Need-returns-2
 returns-2 c = promoted-full (c .before .before .before .before .before .args .b) (entries-size (c .before .before .before .before .before)) (replacements-size (c .before .before .before .before .before)) (c .before .before .before .before .before .pre .0) (c .before .before .before .before .before .args .i) (c .before .before .before .before .before .args .e) (c .replace .result) (c .before .if1 .left) (c .replace .ensures)
 
 pub promote-spec : {M : Type 1} → statement M
 promote-spec =
-    tie.close (tie.spec push-requires remove-requires returns replace-requires returns-2)
+    tie.close (tie.spec (λ c κs. search needs) (λ c κs. search needs) returns (λ c κs. search needs) returns-2)

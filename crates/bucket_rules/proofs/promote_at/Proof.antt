@@ -15,17 +15,8 @@ entries-size c = search (needs, length-mapped)
 replacements-size : (c : tie.Start) → length (c .args .b .replacements .items) ≡ 16
 replacements-size c = search (needs, length-mapped)
 
-enum-told : tie.Need-enum-told
-enum-told c = search needs
-
-enum-known-at : tie.Need-enum-known-at
-enum-known-at c = search needs
-
 to-tail-requires : tie.Need-to-tail-requires
 to-tail-requires c κs = (c .before .before .before .pre .0, in-entries (c .before .before .before .args .b) (entries-size (c .before .before .before)) (replacements-size (c .before .before .before)) (c .before .before .before .pre .0) (c .before .before .before .pre .1) (c .before .at .given .1))
-
-enum-known-at-2 : tie.Need-enum-known-at-2
-enum-known-at-2 c = search needs
 
 promote-requires : tie.Need-promote-requires
 promote-requires c κs = (c .before .before .before .pre .0, in-replacements (c .before .before .before .args .b) (entries-size (c .before .before .before)) (replacements-size (c .before .before .before)) (c .before .before .before .pre .0) (c .before .before .before .pre .1) (c .before .at2 .given .1))
@@ -43,10 +34,10 @@ pub promote-at-spec : {M : Type 1} → statement M
 promote-at-spec =
     tie.close
     (tie.spec
-    enum-told
-    enum-known-at
+    (λ c. search needs)
+    (λ c. search needs)
     to-tail-requires
-    enum-known-at-2
+    (λ c. search needs)
     promote-requires
     returns
     returns-2

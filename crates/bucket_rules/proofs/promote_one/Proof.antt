@@ -15,12 +15,6 @@ entries-size c = search (needs, length-mapped)
 replacements-size : (c : tie.Start) → length (c .args .b .replacements .items) ≡ 16
 replacements-size c = search (needs, length-mapped)
 
-is-proved-requires : tie.Need-is-proved-requires
-is-proved-requires c κs = search needs
-
-both-requires : tie.Need-both-requires
-both-requires c κs = search needs
-
 push-requires : tie.Need-push-requires
 push-requires c κs = let start = c .before .before .before .before .before .before in
     moves-free (start .args .b) (start .args .e) (entries-size start) (replacements-size start) (start .pre .0) (omega (arith, start .pre .1))
@@ -31,9 +25,6 @@ returns c = let start = c .before .before .before .before .before .before .befor
     one-moves (start .args .b) (start .args .e) (entries-size start) (replacements-size start) (start .pre .0) (omega (arith, start .pre .1))
     (c .before .before .before .before .is-proved .ensures) (c .before .before .both .ensures) (c .push .result) (c .before .if1 .taken) (c .push .ensures)
 
-push-requires-2 : tie.Need-push-requires-2
-push-requires-2 c κs = search needs
-
 returns-2 : tie.Need-returns-2
 returns-2 c = let start = c .before .before .before .before .before .before .before in
     one-stays (start .args .b) (start .args .e) (entries-size start) (replacements-size start) (start .pre .0) (omega (arith, start .pre .1))
@@ -42,4 +33,4 @@ returns-2 c = let start = c .before .before .before .before .before .before .bef
 pub promote-one-spec : {M : Type 1} → statement M
 promote-one-spec =
     tie.close
-    (tie.spec is-proved-requires both-requires push-requires returns push-requires-2 returns-2)
+    (tie.spec (λ c κs. search needs) (λ c κs. search needs) push-requires returns (λ c κs. search needs) returns-2)

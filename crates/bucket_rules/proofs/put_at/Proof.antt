@@ -16,17 +16,8 @@ entries-size c = search (needs, length-mapped)
 replacements-size : (c : tie.Start) → length (c .args .b .replacements .items) ≡ 16
 replacements-size c = search (needs, length-mapped)
 
-enum-told : tie.Need-enum-told
-enum-told c = search needs
-
-enum-known-at : tie.Need-enum-known-at
-enum-known-at c = search needs
-
 replace-requires : tie.Need-replace-requires
 replace-requires c κs = (in-entries (c .before .before .before .before .before .args .b) (entries-size (c .before .before .before .before .before)) (replacements-size (c .before .before .before .before .before)) (c .before .before .before .before .before .pre .0) (c .before .before .before .before .before .pre .1) (c .before .at .given .1), c .before .before .before .before .before .pre .0 .entries)
-
-enum-known-at-2 : tie.Need-enum-known-at-2
-enum-known-at-2 c = search needs
 
 replace-requires-2 : tie.Need-replace-requires-2
 replace-requires-2 c κs = (in-replacements (c .before .before .before .before .before .args .b) (entries-size (c .before .before .before .before .before)) (replacements-size (c .before .before .before .before .before)) (c .before .before .before .before .before .pre .0) (c .before .before .before .before .before .pre .1) (c .before .at2 .given .1), omega (arith, c .before .before .before .before .before .pre .0 .replacements))
@@ -44,10 +35,10 @@ pub put-at-spec : {M : Type 1} → statement M
 put-at-spec =
     tie.close
     (tie.spec
-    enum-told
-    enum-known-at
+    (λ c. search needs)
+    (λ c. search needs)
     replace-requires
-    enum-known-at-2
+    (λ c. search needs)
     replace-requires-2
     returns
     returns-2

@@ -7,15 +7,6 @@ use borrow.Author.Needs.{needs}
 use Rattle.bucket_rules.proofs.stays.Statement.{statement}
 use Rattle.bucket_rules.proofs.stays.Tie as tie
 
-is-overdue-requires : tie.Need-is-overdue-requires
-is-overdue-requires c κs = search needs
-
-proof-expired-requires : tie.Need-proof-expired-requires
-proof-expired-requires c κs = search needs
-
-both-requires : tie.Need-both-requires
-both-requires c κs = search needs
-
 returns : tie.Need-returns
 returns c = let args = c .before .before .before .before .args in
     stays-waiting (args .clock .0) (args .e) (args .waiting) (c .before .before .if1 .taken)
@@ -27,4 +18,4 @@ returns-2 c = let args = c .before .before .args in
 
 pub stays-spec : {M : Type 1} → statement M
 stays-spec =
-    tie.close (tie.spec is-overdue-requires proof-expired-requires both-requires returns returns-2)
+    tie.close (tie.spec (λ c κs. search needs) (λ c κs. search needs) (λ c κs. search needs) returns returns-2)

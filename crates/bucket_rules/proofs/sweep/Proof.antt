@@ -4,18 +4,6 @@ use borrow.Author.Needs.{needs}
 use Rattle.bucket_rules.proofs.sweep.Statement.{statement}
 use Rattle.bucket_rules.proofs.sweep.Tie as tie
 
-kept-requires : tie.Need-kept-requires
-kept-requires c κs = search needs
-
-kept-requires-2 : tie.Need-kept-requires-2
-kept-requires-2 c κs = search needs
-
-empty-requires : tie.Need-empty-requires
-empty-requires c κs = search needs
-
-promote-all-requires : tie.Need-promote-all-requires
-promote-all-requires c κs = search needs
-
 returns : tie.Need-returns
 returns c = let at-kept-2 = c .before .before in
     let at-kept = at-kept-2 .before in
@@ -25,4 +13,4 @@ returns c = let at-kept-2 = c .before .before in
 
 pub sweep-spec : {M : Type 1} → statement M
 sweep-spec =
-    tie.close (tie.spec kept-requires kept-requires-2 empty-requires promote-all-requires returns)
+    tie.close (tie.spec (λ c κs. search needs) (λ c κs. search needs) (λ c κs. search needs) (λ c κs. search needs) returns)

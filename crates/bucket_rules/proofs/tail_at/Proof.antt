@@ -15,20 +15,8 @@ entries-size c = search (needs, length-mapped)
 replacements-size : (c : tie.Start) → length (c .args .b .replacements .items) ≡ 16
 replacements-size c = search (needs, length-mapped)
 
-enum-told : tie.Need-enum-told
-enum-told c = search needs
-
-enum-known-at : tie.Need-enum-known-at
-enum-known-at c = search needs
-
 to-tail-requires : tie.Need-to-tail-requires
 to-tail-requires c κs = (c .before .before .before .pre .0, in-entries (c .before .before .before .args .b) (entries-size (c .before .before .before)) (replacements-size (c .before .before .before)) (c .before .before .before .pre .0) (c .before .before .before .pre .1) (c .before .at .given .1))
-
-enum-told-2 : tie.Need-enum-told-2
-enum-told-2 c = search needs
-
-put-at-requires : tie.Need-put-at-requires
-put-at-requires c κs = search needs
 
 returns : tie.Need-returns
 returns c = rw (c .enum-told .given .1) (unchanged (c .before .before .args .b) (entries-size (c .before .before)) (replacements-size (c .before .before)) (c .before .before .pre .0))
@@ -43,11 +31,11 @@ pub tail-at-spec : {M : Type 1} → statement M
 tail-at-spec =
     tie.close
     (tie.spec
-    enum-told
-    enum-known-at
+    (λ c. search needs)
+    (λ c. search needs)
     to-tail-requires
-    enum-told-2
-    put-at-requires
+    (λ c. search needs)
+    (λ c κs. search needs)
     returns
     returns-2
     returns-3)

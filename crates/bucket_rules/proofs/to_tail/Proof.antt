@@ -14,11 +14,8 @@ entries-size c = search (needs, length-mapped)
 replacements-size : (c : tie.Start) → length (c .args .b .replacements .items) ≡ 16
 replacements-size c = search (needs, length-mapped)
 
-to-tail-requires : tie.Need-to-tail-requires
-to-tail-requires c κs = search needs
-
 returns : tie.Need-returns
 returns c = with-entries (c .before .before .before .args .b) (entries-size (c .before .before .before)) (replacements-size (c .before .before .before)) (c .before .before .before .pre .0) (c .to-tail .result) _ (c .to-tail .ensures)
 
 pub to-tail-spec : {M : Type 1} → statement M
-to-tail-spec = tie.close (tie.spec to-tail-requires returns)
+to-tail-spec = tie.close (tie.spec (λ c κs. search needs) returns)

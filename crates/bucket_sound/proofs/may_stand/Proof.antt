@@ -4,9 +4,6 @@ use borrow.Author.Needs.{needs}
 use Rattle.bucket_sound.proofs.may_stand.Statement.{statement}
 use Rattle.bucket_sound.proofs.may_stand.Tie as tie
 
-both-requires : tie.Need-both-requires
-both-requires c κs = search needs
-
 returns : tie.Need-returns
 returns c = let args = c .before .before .before .before .args in
     unproved-stands (args .proof) (args .ping) (args .proved) (args .unproved) (c .before .before .if1 .taken) (c .both .ensures)
@@ -16,4 +13,4 @@ returns-2 c = let args = c .before .before .args in
     proved-stands (args .proof) (args .ping) (args .proved) (args .unproved) (c .if1 .left)
 
 pub may-stand-spec : {M : Type 1} → statement M
-may-stand-spec = tie.close (tie.spec both-requires returns returns-2)
+may-stand-spec = tie.close (tie.spec (λ c κs. search needs) returns returns-2)

@@ -5,66 +5,6 @@ use borrow.Author.Needs.{needs}
 use Rattle.bucket_sound.proofs.record_sound.Statement.{statement}
 use Rattle.bucket_sound.proofs.record_sound.Tie as tie
 
-add-number-at : tie.Need-add-number-at
-add-number-at c = search needs
-
-number-at-requires : tie.Need-number-at-requires
-number-at-requires c κs = search needs
-
-add-load-stamp : tie.Need-add-load-stamp
-add-load-stamp c = search needs
-
-load-stamp-requires : tie.Need-load-stamp-requires
-load-stamp-requires c κs = search needs
-
-add-load-stamp-2 : tie.Need-add-load-stamp-2
-add-load-stamp-2 c = search needs
-
-load-stamp-requires-2 : tie.Need-load-stamp-requires-2
-load-stamp-requires-2 c κs = search needs
-
-stamp-form-requires : tie.Need-stamp-form-requires
-stamp-form-requires c κs = search needs
-
-stamp-form-requires-2 : tie.Need-stamp-form-requires-2
-stamp-form-requires-2 c κs = search needs
-
-both-requires : tie.Need-both-requires
-both-requires c κs = search needs
-
-stamp-by-requires : tie.Need-stamp-by-requires
-stamp-by-requires c κs = search needs
-
-stamp-by-requires-2 : tie.Need-stamp-by-requires-2
-stamp-by-requires-2 c κs = search needs
-
-both-requires-2 : tie.Need-both-requires-2
-both-requires-2 c κs = search needs
-
-both-requires-3 : tie.Need-both-requires-3
-both-requires-3 c κs = search needs
-
-may-stand-requires : tie.Need-may-stand-requires
-may-stand-requires c κs = search needs
-
-add-address-form : tie.Need-add-address-form
-add-address-form c = search needs
-
-address-form-requires : tie.Need-address-form-requires
-address-form-requires c κs = search needs
-
-both-requires-4 : tie.Need-both-requires-4
-both-requires-4 c κs = search needs
-
-both-requires-5 : tie.Need-both-requires-5
-both-requires-5 c κs = search needs
-
-both-requires-6 : tie.Need-both-requires-6
-both-requires-6 c κs = search needs
-
-at-home-requires : tie.Need-at-home-requires
-at-home-requires c κs = search needs
-
 returns : tie.Need-returns
 returns c = let start = c .before .before .before .before .before .before .before .before .before .before .before .before .before .before .before .before .before .before .before .before in
     let args = start .args in
@@ -91,25 +31,25 @@ pub record-sound-spec : {M : Type 1} → statement M
 record-sound-spec =
     tie.close
     (tie.spec
-    add-number-at
-    number-at-requires
-    add-load-stamp
-    load-stamp-requires
-    add-load-stamp-2
-    load-stamp-requires-2
-    stamp-form-requires
-    stamp-form-requires-2
-    both-requires
-    stamp-by-requires
-    stamp-by-requires-2
-    both-requires-2
-    both-requires-3
-    may-stand-requires
-    add-address-form
-    address-form-requires
-    both-requires-4
-    both-requires-5
-    both-requires-6
-    at-home-requires
+    (λ c. search needs)
+    (λ c κs. search needs)
+    (λ c. search needs)
+    (λ c κs. search needs)
+    (λ c. search needs)
+    (λ c κs. search needs)
+    (λ c κs. search needs)
+    (λ c κs. search needs)
+    (λ c κs. search needs)
+    (λ c κs. search needs)
+    (λ c κs. search needs)
+    (λ c κs. search needs)
+    (λ c κs. search needs)
+    (λ c κs. search needs)
+    (λ c. search needs)
+    (λ c κs. search needs)
+    (λ c κs. search needs)
+    (λ c κs. search needs)
+    (λ c κs. search needs)
+    (λ c κs. search needs)
     returns
     returns-2)

@@ -19,26 +19,11 @@ returns : tie.Need-returns
 unfolding raised
 returns c = simp (le-ltb _ _ (c .if1 .taken))
 
-mul-old : tie.Need-mul-old
-mul-old c = search needs
-
-element-copy-out-old : tie.Need-element-copy-out-old
-element-copy-out-old c = search needs
-
 returns-2 : tie.Need-returns-2
 unfolding raised
 returns-2 c =
     simp (lt-ltb _ _ (c .before .before .if1 .left), le-ltb _ _ (c .if2 .taken))
     (ap (λ (cs : List ℕ). counters-of cs) (sym (set-getD _ _ 0)))
-
-add-next : tie.Need-add-next
-add-next c = search needs
-
-mul-next : tie.Need-mul-next
-mul-next c = search needs
-
-element-write-next : tie.Need-element-write-next
-element-write-next c = search needs
 
 returns-3 : tie.Need-returns-3
 unfolding raised
@@ -49,10 +34,10 @@ raise-spec =
     tie.close
     (tie.spec
     returns
-    mul-old
-    element-copy-out-old
+    (λ c. search needs)
+    (λ c. search needs)
     returns-2
-    add-next
-    mul-next
-    element-write-next
+    (λ c. search needs)
+    (λ c. search needs)
+    (λ c. search needs)
     returns-3)

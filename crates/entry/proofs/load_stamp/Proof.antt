@@ -4,15 +4,6 @@ use borrow.Author.Needs.{needs}
 use Rattle.entry.proofs.load_stamp.Statement.{statement}
 use Rattle.entry.proofs.load_stamp.Tie as tie
 
-shared-slice-read-flag : tie.Need-shared-slice-read-flag
-shared-slice-read-flag c = search needs
-
-add-number-at : tie.Need-add-number-at
-add-number-at c = search needs
-
-number-at-requires : tie.Need-number-at-requires
-number-at-requires c κs = search needs
-
 returns : tie.Need-returns
 returns c =
     let args = c .before .before .before .args in
@@ -20,4 +11,4 @@ returns c =
 
 pub load-stamp-spec : {M : Type 1} → statement M
 load-stamp-spec =
-    tie.close (tie.spec shared-slice-read-flag add-number-at number-at-requires returns)
+    tie.close (tie.spec (λ c. search needs) (λ c. search needs) (λ c κs. search needs) returns)

@@ -5,16 +5,10 @@ use borrow.Author.Needs.{needs}
 use Rattle.entry.proofs.port_at.Statement.{statement}
 use Rattle.entry.proofs.port_at.Tie as tie
 
-number-at-requires : tie.Need-number-at-requires
-number-at-requires c κs = search needs
-
 cast-result : tie.Need-cast-result
 cast-result c =
     let args = c .before .before .args in
     record { fits = rw (← c .number-at .ensures) at (number-less (args .bytes .now) (args .at) 2 (omega arith) (λ k. c .before .shared-slice-known .given k .fits)) }
 
-returns : tie.Need-returns
-returns c = search needs
-
 pub port-at-spec : {M : Type 1} → statement M
-port-at-spec = tie.close (tie.spec number-at-requires cast-result returns)
+port-at-spec = tie.close (tie.spec (λ c κs. search needs) cast-result (λ c. search needs))

@@ -5,12 +5,6 @@ use borrow.Author.Needs.{needs}
 use Rattle.entry.proofs.proof_stamp.Statement.{statement}
 use Rattle.entry.proofs.proof_stamp.Tie as tie
 
-enum-told : tie.Need-enum-told
-enum-told c = search needs
-
-enum-known-proof : tie.Need-enum-known-proof
-enum-known-proof c = search needs
-
 returns : tie.Need-returns
 returns c = sym (ap proofStamp (c .enum-told .given .1))
 
@@ -18,4 +12,4 @@ returns-2 : tie.Need-returns-2
 returns-2 c = sym (ap proofStamp (c .before .proof .given .1))
 
 pub proof-stamp-spec : {M : Type 1} → statement M
-proof-stamp-spec = tie.close (tie.spec enum-told enum-known-proof returns returns-2)
+proof-stamp-spec = tie.close (tie.spec (λ c. search needs) (λ c. search needs) returns returns-2)

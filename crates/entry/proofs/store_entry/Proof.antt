@@ -17,53 +17,14 @@ address-size c = search needs
 hash-size : (c : tie.Start) → length (c .args .p .hash) ≡ 32
 hash-size c = search needs
 
-proof-stamp-requires : tie.Need-proof-stamp-requires
-proof-stamp-requires c κs = search needs
-
-ping-stamp-requires : tie.Need-ping-stamp-requires
-ping-stamp-requires c κs = search needs
-
-slice-aggregate-put-bytes : tie.Need-slice-aggregate-put-bytes
-slice-aggregate-put-bytes c = search needs
-
 put-bytes-requires : tie.Need-put-bytes-requires
 put-bytes-requires c κs = omega (arith, key-size (c .before .before .before .before .before .before .before .before .before))
-
-add-store-endpoint : tie.Need-add-store-endpoint
-add-store-endpoint c = search needs
-
-store-endpoint-requires : tie.Need-store-endpoint-requires
-store-endpoint-requires c κs = search needs
-
-add-put-number : tie.Need-add-put-number
-add-put-number c = search needs
-
-put-number-requires : tie.Need-put-number-requires
-put-number-requires c κs = search needs
-
-add-store-stamp : tie.Need-add-store-stamp
-add-store-stamp c = search needs
-
-store-stamp-requires : tie.Need-store-stamp-requires
-store-stamp-requires c κs = search needs
-
-add-store-stamp-2 : tie.Need-add-store-stamp-2
-add-store-stamp-2 c = search needs
-
-store-stamp-requires-2 : tie.Need-store-stamp-requires-2
-store-stamp-requires-2 c κs = search needs
-
-add-put-bytes : tie.Need-add-put-bytes
-add-put-bytes c = search needs
 
 slice-aggregate-put-bytes-2 : tie.Need-slice-aggregate-put-bytes-2
 slice-aggregate-put-bytes-2 c = sym (hash-size (c .before .before .before .before .before .before .before .before .before .before .before .before .before .before .before .before .before .before .before .before .before .before .before .before .before .before .before .before .before .before))
 
 put-bytes-requires-2 : tie.Need-put-bytes-requires-2
 put-bytes-requires-2 c κs = omega (arith, c .before .before .before .before .before .before .before .before .before .before .before .before .before .before .before .before .before .before .before .before .before .before .before .before .before .before .before .before .before .before .pre, hash-size (c .before .before .before .before .before .before .before .before .before .before .before .before .before .before .before .before .before .before .before .before .before .before .before .before .before .before .before .before .before .before))
-
-same-length : tie.Need-same-length
-same-length c = search needs
 
 returns : tie.Need-returns
 returns c =
@@ -92,20 +53,20 @@ pub store-entry-spec : {M : Type 1} → statement M
 store-entry-spec =
     tie.close
     (tie.spec
-    proof-stamp-requires
-    ping-stamp-requires
-    slice-aggregate-put-bytes
+    (λ c κs. search needs)
+    (λ c κs. search needs)
+    (λ c. search needs)
     put-bytes-requires
-    add-store-endpoint
-    store-endpoint-requires
-    add-put-number
-    put-number-requires
-    add-store-stamp
-    store-stamp-requires
-    add-store-stamp-2
-    store-stamp-requires-2
-    add-put-bytes
+    (λ c. search needs)
+    (λ c κs. search needs)
+    (λ c. search needs)
+    (λ c κs. search needs)
+    (λ c. search needs)
+    (λ c κs. search needs)
+    (λ c. search needs)
+    (λ c κs. search needs)
+    (λ c. search needs)
     slice-aggregate-put-bytes-2
     put-bytes-requires-2
-    same-length
+    (λ c. search needs)
     returns)

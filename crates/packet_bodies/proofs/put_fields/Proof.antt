@@ -29,9 +29,6 @@ write-uint-requires-2 c κs =
     (step (begun (c .before .before .before .before .before .before .before .before .before .before .before)) (c .before .before .before .before .before .before .before .write-string .ensures))
     (c .before .before .before .write-uint .ensures))
 
-same-length : tie.Need-same-length
-same-length c = search needs
-
 returns : tie.Need-returns
 returns c =
     finish
@@ -45,4 +42,4 @@ returns c =
 pub put-fields-spec : {M : Type 1} → statement M
 put-fields-spec =
     tie.close
-    (tie.spec write-string-requires write-uint-requires write-uint-requires-2 same-length returns)
+    (tie.spec write-string-requires write-uint-requires write-uint-requires-2 (λ c. search needs) returns)

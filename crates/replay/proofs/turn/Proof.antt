@@ -23,9 +23,6 @@ returns c =
     let n : r .result .at ≤ length (c .before .before .before .before .before .before .before .before .before .before .before .before .before .before .before .before .before .before .before .before .args .chunk .now) = omega (arith, r .ensures .1 .0, f .1 .1) in
     (r .ensures .0, (n, left-on (c .before .before .before .before .before .before .before .before .before .before .before .before .before .before .before .before .before .before .before .before .args .chunk .now) (c .before .before .before .before .before .before .before .before .before .before .before .before .before .before .before .before .before .before .before .before .args .p) (r .result) (p .1 .1) (r .ensures .1 .1) (omega (arith, r .ensures .1 .0, f .1 .0)) n))
 
-same-length-4 : tie.Need-same-length-4
-same-length-4 c = search needs
-
 same-length-5 : tie.Need-same-length-5
 same-length-5 c = search needs
 
@@ -61,7 +58,7 @@ turn-spec =
     (λ c. search needs)
     (λ c. search needs)
     returns
-    same-length-4
+    (λ c. search needs)
     same-length-5
     returns-2
     (λ c. search needs)

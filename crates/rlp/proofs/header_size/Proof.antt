@@ -8,9 +8,6 @@ use Rattle.rlp.proofs.Writing.{header-short, header-long}
 use Rattle.rlp.proofs.header_size.Statement.{statement}
 use Rattle.rlp.proofs.header_size.Tie as tie
 
-uint-len-requires : tie.Need-uint-len-requires
-uint-len-requires c κs = search needs
-
 add-result : tie.Need-add-result
 add-result c = omega (arith, c .uint-len .ensures, uint-bound (c .before .before .args .n) (c .before .before .fits .n .fits))
 
@@ -23,4 +20,4 @@ returns-2 c =
     omega (arith, ap length (header-long 192 n (c .before .if1 .left)), c .uint-len .ensures, uint-bound n (c .before .before .fits .n .fits))
 
 pub header-size-spec : {M : Type 1} → statement M
-header-size-spec = tie.close (tie.spec uint-len-requires add-result returns returns-2)
+header-size-spec = tie.close (tie.spec (λ c κs. search needs) add-result returns returns-2)

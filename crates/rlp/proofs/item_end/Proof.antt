@@ -9,24 +9,6 @@ use Rattle.rlp.proofs.Reading.{head-at, item-at}
 use Rattle.rlp.proofs.item_end.Statement.{statement}
 use Rattle.rlp.proofs.item_end.Tie as tie
 
-sub-read-header : tie.Need-sub-read-header
-sub-read-header c = search needs
-
-part-read-header-start : tie.Need-part-read-header-start
-part-read-header-start c = search needs
-
-part-read-header-end : tie.Need-part-read-header-end
-part-read-header-end c = search needs
-
-read-header-requires : tie.Need-read-header-requires
-read-header-requires c κs = search needs
-
-enum-known-skip : tie.Need-enum-known-skip
-enum-known-skip c = search needs
-
-enum-told : tie.Need-enum-told
-enum-told c = search needs
-
 returns : tie.Need-returns
 returns c =
     let a = c .before .before .before .before .before .args in
@@ -56,12 +38,12 @@ pub item-end-spec : {M : Type 1} → statement M
 item-end-spec =
     tie.close
     (tie.spec
-    sub-read-header
-    part-read-header-start
-    part-read-header-end
-    read-header-requires
-    enum-known-skip
-    enum-told
+    (λ c. search needs)
+    (λ c. search needs)
+    (λ c. search needs)
+    (λ c κs. search needs)
+    (λ c. search needs)
+    (λ c. search needs)
     returns
     add-result
     add-result-2

@@ -8,24 +8,9 @@ use Rattle.rlp.proofs.Reading.{long-short, long-within}
 use Rattle.rlp.proofs.long.Statement.{statement}
 use Rattle.rlp.proofs.long.Tie as tie
 
-sub-if1 : tie.Need-sub-if1
-sub-if1 c = search needs
-
-shared-slice-read-if2 : tie.Need-shared-slice-read-if2
-shared-slice-read-if2 c = search needs
-
 returns : tie.Need-returns
 unfolding long
 returns c = simp (le-leb _ _ (c .before .before .if1 .taken), eq-eqb _ _ (c .if2 .taken))
-
-number-at-requires : tie.Need-number-at-requires
-number-at-requires c κs = search needs
-
-add-within : tie.Need-add-within
-add-within c = search needs
-
-within-requires : tie.Need-within-requires
-within-requires c κs = search needs
 
 returns-2 : tie.Need-returns-2
 returns-2 c =
@@ -48,12 +33,12 @@ pub long-spec : {M : Type 1} → statement M
 long-spec =
     tie.close
     (tie.spec
-    sub-if1
-    shared-slice-read-if2
+    (λ c. search needs)
+    (λ c. search needs)
     returns
-    number-at-requires
-    add-within
-    within-requires
+    (λ c κs. search needs)
+    (λ c. search needs)
+    (λ c κs. search needs)
     returns-2
     returns-3
     returns-4)

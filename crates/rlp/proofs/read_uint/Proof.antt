@@ -14,16 +14,10 @@ use Rattle.rlp.proofs.read_uint.Tie as tie
 returns : tie.Need-returns
 returns c = uint-long (c .before .before .args .s .now) (c .if1 .taken)
 
-shared-slice-read-if3 : tie.Need-shared-slice-read-if3
-shared-slice-read-if3 c = search needs
-
 returns-2 : tie.Need-returns-2
 returns-2 c =
     let s = c .before .before .before .before .before .args .s .now in
     uint-leading s (omega arith) (leading-zero s (omega arith) (c .if3 .taken))
-
-number-at-requires : tie.Need-number-at-requires
-number-at-requires c κs = search needs
 
 returns-3 : tie.Need-returns-3
 returns-3 c =
@@ -33,4 +27,4 @@ returns-3 c =
 
 pub read-uint-spec : {M : Type 1} → statement M
 read-uint-spec =
-    tie.close (tie.spec returns shared-slice-read-if3 returns-2 number-at-requires returns-3)
+    tie.close (tie.spec returns (λ c. search needs) returns-2 (λ c κs. search needs) returns-3)

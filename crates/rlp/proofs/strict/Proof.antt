@@ -7,12 +7,6 @@ use borrow.Author.Needs.{needs}
 use Rattle.rlp.proofs.strict.Statement.{statement}
 use Rattle.rlp.proofs.strict.Tie as tie
 
-enum-known-h : tie.Need-enum-known-h
-enum-known-h c = search needs
-
-enum-told : tie.Need-enum-told
-enum-told c = search needs
-
 returns : tie.Need-returns
 unfolding strict
 returns c = simp (c .enum-told .given .1)
@@ -21,9 +15,6 @@ returns-2 : tie.Need-returns-2
 unfolding strict
 returns-2 c =
     simp (c .before .before .before .h .given .1, eq-eqb _ _ (c .before .if1 .taken), List·getD-eq-default (c .before .before .before .before .before .args .s .now) 0 (c .if2 .taken))
-
-shared-slice-read-if3 : tie.Need-shared-slice-read-if3
-shared-slice-read-if3 c = search needs
 
 returns-3 : tie.Need-returns-3
 unfolding strict
@@ -47,11 +38,11 @@ pub strict-spec : {M : Type 1} → statement M
 strict-spec =
     tie.close
     (tie.spec
-    enum-known-h
-    enum-told
+    (λ c. search needs)
+    (λ c. search needs)
     returns
     returns-2
-    shared-slice-read-if3
+    (λ c. search needs)
     returns-3
     returns-4
     returns-5)

@@ -10,8 +10,5 @@ write-header-requires c κs =
     let room = header-bound 192 (c .before .before .args .n) (c .before .before .fits .n .fits) in
     (omega arith, omega arith)
 
-returns : tie.Need-returns
-returns c = search needs
-
 pub rlp-write-list-header-spec : {M : Type 1} → statement M
-rlp-write-list-header-spec = tie.close (tie.spec write-header-requires (λ c. search needs) returns)
+rlp-write-list-header-spec = tie.close (tie.spec write-header-requires (λ c. search needs) (λ c. search needs))

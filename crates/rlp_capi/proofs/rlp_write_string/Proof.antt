@@ -8,8 +8,5 @@ use Rattle.rlp_capi.proofs.rlp_write_string.Tie as tie
 write-string-requires : tie.Need-write-string-requires
 write-string-requires c κs = omega (arith, encode-bound (c .before .before .before .args .s .now) (omega arith))
 
-returns : tie.Need-returns
-returns c = search needs
-
 pub rlp-write-string-spec : {M : Type 1} → statement M
-rlp-write-string-spec = tie.close (tie.spec write-string-requires (λ c. search needs) returns)
+rlp-write-string-spec = tie.close (tie.spec write-string-requires (λ c. search needs) (λ c. search needs))

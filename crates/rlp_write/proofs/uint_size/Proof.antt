@@ -7,9 +7,6 @@ use Rattle.rlp.proofs.Writing.{uint-size-small, uint-size-large}
 use Rattle.rlp_write.proofs.uint_size.Statement.{statement}
 use Rattle.rlp_write.proofs.uint_size.Tie as tie
 
-uint-len-requires : tie.Need-uint-len-requires
-uint-len-requires c κs = search needs
-
 add-result : tie.Need-add-result
 add-result c = omega (arith, c .uint-len .ensures, uint-bound (c .before .before .args .n) (c .before .before .fits .n .fits))
 
@@ -20,4 +17,4 @@ returns-2 : tie.Need-returns-2
 returns-2 c = omega (arith, uint-size-large (c .before .before .args .n) (c .before .before .fits .n .fits) (c .before .if1 .left), c .uint-len .ensures)
 
 pub uint-size-spec : {M : Type 1} → statement M
-uint-size-spec = tie.close (tie.spec uint-len-requires add-result returns returns-2)
+uint-size-spec = tie.close (tie.spec (λ c κs. search needs) add-result returns returns-2)

@@ -8,18 +8,6 @@ use Rattle.rlp.proofs.Numbers.{length-uint}
 use Rattle.rlp_write.proofs.write_digits.Statement.{statement}
 use Rattle.rlp_write.proofs.write_digits.Tie as tie
 
-uint-len-requires : tie.Need-uint-len-requires
-uint-len-requires c κs = search needs
-
-put-number-requires : tie.Need-put-number-requires
-put-number-requires c κs = search needs
-
-add-result : tie.Need-add-result
-add-result c = search needs
-
-same-length : tie.Need-same-length
-same-length c = search needs
-
 returns : tie.Need-returns
 returns c =
     let a = c .before .before .before .before .before .before .args in
@@ -27,4 +15,4 @@ returns c =
     (omega arith, c .before .before .put-number .ensures ∙ ap (λ (w : ℕ). store (a .buf .now) (a .at) (bigEndian w (a .n))) (k .ensures ∙ length-uint (a .n)))
 
 pub write-digits-spec : {M : Type 1} → statement M
-write-digits-spec = tie.close (tie.spec uint-len-requires put-number-requires add-result same-length returns)
+write-digits-spec = tie.close (tie.spec (λ c κs. search needs) (λ c κs. search needs) (λ c. search needs) (λ c. search needs) returns)

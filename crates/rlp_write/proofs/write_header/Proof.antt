@@ -13,33 +13,15 @@ use Rattle.rlp.proofs.Writing.{header-short, header-long}
 use Rattle.rlp_write.proofs.write_header.Statement.{statement}
 use Rattle.rlp_write.proofs.write_header.Tie as tie
 
-cast-buf : tie.Need-cast-buf
-cast-buf c = search needs
-
-add-buf : tie.Need-add-buf
-add-buf c = search needs
-
 slice-write-buf : tie.Need-slice-write-buf
 slice-write-buf c =
     let a = c .before .before .args in
     omega (arith, ap length (header-short (a .base) (a .n) (c .if1 .taken)))
 
-add-result : tie.Need-add-result
-add-result c = search needs
-
-same-length : tie.Need-same-length
-same-length c = search needs
-
 returns : tie.Need-returns
 returns c =
     let a = c .before .before .args in
     wrote-one (a .buf .now) (a .at) (a .base + a .n) (header (a .base) (a .n)) (header-short (a .base) (a .n) (c .if1 .taken))
-
-uint-len-requires : tie.Need-uint-len-requires
-uint-len-requires c κs = search needs
-
-add-buf-2 : tie.Need-add-buf-2
-add-buf-2 c = search needs
 
 cast-buf-2 : tie.Need-cast-buf-2
 cast-buf-2 c = omega (arith, c .uint-len .ensures, uint-bound (c .before .before .before .args .n) (c .before .before .before .fits .n .fits))
@@ -51,9 +33,6 @@ slice-write-buf-2 : tie.Need-slice-write-buf-2
 slice-write-buf-2 c =
     let a = c .before .before .before .args in
     omega (arith, ap length (header-long (a .base) (a .n) (c .before .if1 .left)))
-
-add-write-digits : tie.Need-add-write-digits
-add-write-digits c = search needs
 
 write-digits-requires : tie.Need-write-digits-requires
 write-digits-requires c κs =
@@ -72,4 +51,4 @@ returns-2 c =
     wrote-cons (a .buf .now) (a .at) (a .base + 55 + k .result) (uintBytes (a .n)) (header (a .base) (a .n)) _ _ q (c .before .before .write-digits .ensures)
 
 pub write-header-spec : {M : Type 1} → statement M
-write-header-spec = tie.close (tie.spec cast-buf add-buf slice-write-buf add-result same-length returns uint-len-requires add-buf-2 cast-buf-2 add-buf-3 slice-write-buf-2 add-write-digits write-digits-requires same-length-2 returns-2)
+write-header-spec = tie.close (tie.spec (λ c. search needs) (λ c. search needs) slice-write-buf (λ c. search needs) (λ c. search needs) returns (λ c κs. search needs) (λ c. search needs) cast-buf-2 add-buf-3 slice-write-buf-2 (λ c. search needs) write-digits-requires same-length-2 returns-2)

@@ -18,17 +18,8 @@ framed c =
     let s = c .before .before .before .args .s .now in
     encode-framed s (λ (one : length s ≡ 1). ⊎-elim (λ w. w .2 .left) (λ w. absurd (w .left one)) (c .if1 .came))
 
-shared-slice-read-b : tie.Need-shared-slice-read-b
-shared-slice-read-b c = search needs
-
 slice-write-buf : tie.Need-slice-write-buf
 slice-write-buf c = omega (arith, ap length (encode-one (c .before .before .before .before .before .args .s .now) (c .before .before .if1 .taken) (c .if2 .taken)))
-
-add-result : tie.Need-add-result
-add-result c = search needs
-
-same-length : tie.Need-same-length
-same-length c = search needs
 
 returns : tie.Need-returns
 returns c =
@@ -53,9 +44,6 @@ add-result-2 c =
     let s = before .before .before .before .args .s .now in
     omega (arith, ap length (framed before), length-append (header 0x80 (length s)) s, c .before .before .before .before .before .before .write-header .ensures .0)
 
-same-length-2 : tie.Need-same-length-2
-same-length-2 c = search needs
-
 returns-2 : tie.Need-returns-2
 returns-2 c =
     let h = c .before .before .before .before .before .before .write-header in
@@ -65,4 +53,4 @@ returns-2 c =
     rw (framed before) (wrote-append (a .buf .now) (a .at) (header 0x80 (length s)) s _ _ (h .result) _ (h .ensures) (refl, c .before .before .put-bytes .ensures))
 
 pub write-string-spec : {M : Type 1} → statement M
-write-string-spec = tie.close (tie.spec shared-slice-read-b slice-write-buf add-result same-length returns write-header-requires put-bytes-requires add-result-2 same-length-2 returns-2)
+write-string-spec = tie.close (tie.spec (λ c. search needs) slice-write-buf (λ c. search needs) (λ c. search needs) returns write-header-requires put-bytes-requires add-result-2 (λ c. search needs) returns-2)

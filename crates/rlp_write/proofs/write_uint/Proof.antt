@@ -21,25 +21,13 @@ framed c =
     let test : 0 < n → 0x80 ≤ n = λ p. ⊎-elim (λ w. w .1 .left) (λ w. omega arith) (c .before .if1 .came) in
     encode-uint n (c .before .before .before .fits .n .fits) test ∙ ap (λ (k : ℕ). (0x80 + k) ∷ uintBytes n) (sym (c .uint-len .ensures))
 
-cast-buf : tie.Need-cast-buf
-cast-buf c = search needs
-
 slice-write-buf : tie.Need-slice-write-buf
 slice-write-buf c = omega (arith, ap length (encode-uint-one (c .before .before .before .args .n) (c .before .if1 .taken) (c .if2 .taken)))
-
-add-result : tie.Need-add-result
-add-result c = search needs
-
-same-length : tie.Need-same-length
-same-length c = search needs
 
 returns : tie.Need-returns
 returns c =
     let a = c .before .before .before .args in
     wrote-one (a .buf .now) (a .at) (a .n) (encode (string (uintBytes (a .n)))) (encode-uint-one (a .n) (c .before .if1 .taken) (c .if2 .taken))
-
-uint-len-requires : tie.Need-uint-len-requires
-uint-len-requires c κs = search needs
 
 cast-buf-2 : tie.Need-cast-buf-2
 cast-buf-2 c = omega (arith, c .uint-len .ensures, uint-bound (c .before .before .before .args .n) (c .before .before .before .fits .n .fits))
@@ -49,9 +37,6 @@ add-buf c = omega (arith, c .uint-len .ensures, uint-bound (c .before .before .b
 
 slice-write-buf-2 : tie.Need-slice-write-buf-2
 slice-write-buf-2 c = omega (arith, ap length (framed c))
-
-add-write-digits : tie.Need-add-write-digits
-add-write-digits c = search needs
 
 write-digits-requires : tie.Need-write-digits-requires
 write-digits-requires c κs = simp length-set (omega (arith, ap length (framed (c .before))))
@@ -66,4 +51,4 @@ returns-2 c =
     wrote-cons (a .buf .now) (a .at) (0x80 + k .uint-len .result) (uintBytes (a .n)) (encode (string (uintBytes (a .n)))) _ _ (framed k) (c .before .before .write-digits .ensures)
 
 pub write-uint-spec : {M : Type 1} → statement M
-write-uint-spec = tie.close (tie.spec cast-buf slice-write-buf add-result same-length returns uint-len-requires cast-buf-2 add-buf slice-write-buf-2 add-write-digits write-digits-requires same-length-2 returns-2)
+write-uint-spec = tie.close (tie.spec (λ c. search needs) slice-write-buf (λ c. search needs) (λ c. search needs) returns (λ c κs. search needs) cast-buf-2 add-buf slice-write-buf-2 (λ c. search needs) write-digits-requires same-length-2 returns-2)

@@ -15,15 +15,9 @@ entries-size c = length-listed (c .args .self .entries) (search (needs, length-m
 replacements-size : (c : tie.Start) → length (listed (c .args .self .replacements)) ≡ c .args .self .replacements .len
 replacements-size c = length-listed (c .args .self .replacements) (search (needs, length-mapped)) (omega (arith, c .pre .replacements))
 
-find-requires : tie.Need-find-requires
-find-requires c κs = search needs
-
 returns : tie.Need-returns
 returns c = let start = c .before .before .before .before .before in
     in-entries (start .args .self) (start .args .key .now) (entries-size start) (replacements-size start) (c .before .before .find .ensures) (c .if1 .taken)
-
-find-requires-2 : tie.Need-find-requires-2
-find-requires-2 c κs = search needs
 
 returns-2 : tie.Need-returns-2
 returns-2 c = let at-find = c .before .before .before .before .before .before in
@@ -38,4 +32,4 @@ returns-3 c = let at-find = c .before .before .before .before .before .before in
     (c .before .before .before .before .if1 .left) (c .before .before .find2 .ensures) (c .if2 .left)
 
 pub find-spec : {M : Type 1} → statement M
-find-spec = tie.close (tie.spec find-requires returns find-requires-2 returns-2 returns-3)
+find-spec = tie.close (tie.spec (λ c κs. search needs) returns (λ c κs. search needs) returns-2 returns-3)

@@ -15,36 +15,6 @@ seats-size c = search (needs, length-mapped)
 waits-size : (c : tie.Start) → length (c .args .self .replacements .items) ≡ 16
 waits-size c = search (needs, length-mapped)
 
-cast-put-byte : tie.Need-cast-put-byte
-cast-put-byte c = search needs
-
-put-byte-requires : tie.Need-put-byte-requires
-put-byte-requires c κs = search needs
-
-add-put-byte : tie.Need-add-put-byte
-add-put-byte c = search needs
-
-cast-put-byte-2 : tie.Need-cast-put-byte-2
-cast-put-byte-2 c = search needs
-
-put-byte-requires-2 : tie.Need-put-byte-requires-2
-put-byte-requires-2 c κs = search needs
-
-add-store-list : tie.Need-add-store-list
-add-store-list c = search needs
-
-store-list-requires : tie.Need-store-list-requires
-store-list-requires c κs = search needs
-
-add-store-list-2 : tie.Need-add-store-list-2
-add-store-list-2 c = search needs
-
-store-list-requires-2 : tie.Need-store-list-requires-2
-store-list-requires-2 c κs = search needs
-
-same-length : tie.Need-same-length
-same-length c = search needs
-
 returns : tie.Need-returns
 returns c =
     let at-store-list = c .before .before .before .before .before .before in
@@ -73,14 +43,14 @@ pub store-spec : {M : Type 1} → statement M
 store-spec =
     tie.close
     (tie.spec
-    cast-put-byte
-    put-byte-requires
-    add-put-byte
-    cast-put-byte-2
-    put-byte-requires-2
-    add-store-list
-    store-list-requires
-    add-store-list-2
-    store-list-requires-2
-    same-length
+    (λ c. search needs)
+    (λ c κs. search needs)
+    (λ c. search needs)
+    (λ c. search needs)
+    (λ c κs. search needs)
+    (λ c. search needs)
+    (λ c κs. search needs)
+    (λ c. search needs)
+    (λ c κs. search needs)
+    (λ c. search needs)
     returns)

@@ -5,14 +5,8 @@ use borrow.Author.Needs.{needs}
 use Rattle.bucket.proofs.EntryList.replace.Statement.{statement}
 use Rattle.bucket.proofs.EntryList.replace.Tie as tie
 
-mul-e : tie.Need-mul-e
-mul-e c = search needs
-
-element-set-from-e : tie.Need-element-set-from-e
-element-set-from-e c = search needs
-
 returns : tie.Need-returns
 returns c = replace-holds (c .args .self) (c .args .i) (c .args .e) (search (needs, length-mapped)) (omega arith) (omega arith)
 
 pub replace-spec : {M : Type 1} → statement M
-replace-spec = tie.close (tie.spec mul-e element-set-from-e returns)
+replace-spec = tie.close (tie.spec (λ c. search needs) (λ c. search needs) returns)

@@ -7,17 +7,8 @@ use borrow.Author.Needs.{needs}
 use Rattle.bucket_rules.proofs.Lookup.held_elsewhere.Statement.{statement}
 use Rattle.bucket_rules.proofs.Lookup.held_elsewhere.Tie as tie
 
-is-held-requires : tie.Need-is-held-requires
-is-held-requires c κs = search needs
-
-is-at-requires : tie.Need-is-at-requires
-is-at-requires c κs = search needs
-
-both-requires : tie.Need-both-requires
-both-requires c κs = search needs
-
 returns : tie.Need-returns
 returns c = any-found (λ e. not (isAt (c .before .before .before .before .before .args .address .now) (c .before .before .before .before .before .args .udp) e)) (c .before .before .before .before .before .args .self) (c .before .before .is-held .ensures) (ap not (c .before .is-at .ensures)) (c .both .ensures)
 
 pub held-elsewhere-spec : {M : Type 1} → statement M
-held-elsewhere-spec = tie.close (tie.spec is-held-requires is-at-requires both-requires returns)
+held-elsewhere-spec = tie.close (tie.spec (λ c κs. search needs) (λ c κs. search needs) (λ c κs. search needs) returns)

@@ -5,17 +5,8 @@ use borrow.Author.Needs.{needs}
 use Rattle.bucket_rules.proofs.Lookup.is_late.Statement.{statement}
 use Rattle.bucket_rules.proofs.Lookup.is_late.Tie as tie
 
-is-held-requires : tie.Need-is-held-requires
-is-held-requires c κs = search needs
-
-is-overdue-requires : tie.Need-is-overdue-requires
-is-overdue-requires c κs = search needs
-
-both-requires : tie.Need-both-requires
-both-requires c κs = search needs
-
 returns : tie.Need-returns
 returns c = any-found (λ e. isOverdue (c .before .before .before .before .args .clock .0) (e .ping)) (c .before .before .before .before .args .self) (c .before .before .is-held .ensures) (c .before .is-overdue .ensures) (c .both .ensures)
 
 pub is-late-spec : {M : Type 1} → statement M
-is-late-spec = tie.close (tie.spec is-held-requires is-overdue-requires both-requires returns)
+is-late-spec = tie.close (tie.spec (λ c κs. search needs) (λ c κs. search needs) (λ c κs. search needs) returns)

@@ -5,14 +5,8 @@ use borrow.Author.Needs.{needs}
 use Rattle.bucket_rules.proofs.Lookup.no_room.Statement.{statement}
 use Rattle.bucket_rules.proofs.Lookup.no_room.Tie as tie
 
-is-held-requires : tie.Need-is-held-requires
-is-held-requires c κs = search needs
-
-both-requires : tie.Need-both-requires
-both-requires c κs = search needs
-
 returns : tie.Need-returns
 returns c = room (c .before .before .args .self) (leb 4 (c .before .before .args .replacements)) (c .before .is-held .ensures) (c .both .ensures)
 
 pub no-room-spec : {M : Type 1} → statement M
-no-room-spec = tie.close (tie.spec is-held-requires both-requires returns)
+no-room-spec = tie.close (tie.spec (λ c κs. search needs) (λ c κs. search needs) returns)

@@ -7,17 +7,8 @@ use borrow.Author.Needs.{needs}
 use Rattle.bucket_rules.proofs.Lookup.not_awaited.Statement.{statement}
 use Rattle.bucket_rules.proofs.Lookup.not_awaited.Tie as tie
 
-is-held-requires : tie.Need-is-held-requires
-is-held-requires c κs = search needs
-
-is-awaited-requires : tie.Need-is-awaited-requires
-is-awaited-requires c κs = search needs
-
-both-requires : tie.Need-both-requires
-both-requires c κs = search needs
-
 returns : tie.Need-returns
 returns c = ap not (any-found (isAwaited (c .before .before .before .before .before .before .args .hash .now) (c .before .before .before .before .before .before .args .address .now) (c .before .before .before .before .before .before .args .udp)) (c .before .before .before .before .before .before .args .self) (c .before .before .is-held .ensures) (c .before .is-awaited .ensures) (c .both .ensures))
 
 pub not-awaited-spec : {M : Type 1} → statement M
-not-awaited-spec = tie.close (tie.spec is-held-requires is-awaited-requires both-requires returns)
+not-awaited-spec = tie.close (tie.spec (λ c κs. search needs) (λ c κs. search needs) (λ c κs. search needs) returns)

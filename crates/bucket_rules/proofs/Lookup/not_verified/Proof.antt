@@ -7,18 +7,9 @@ use borrow.Author.Needs.{needs}
 use Rattle.bucket_rules.proofs.Lookup.not_verified.Statement.{statement}
 use Rattle.bucket_rules.proofs.Lookup.not_verified.Tie as tie
 
-is-held-requires : tie.Need-is-held-requires
-is-held-requires c κs = search needs
-
-is-verified-requires : tie.Need-is-verified-requires
-is-verified-requires c κs = search needs
-
-both-requires : tie.Need-both-requires
-both-requires c κs = search needs
-
 returns : tie.Need-returns
 returns c = ap not (any-found (isVerified (c .before .before .before .before .before .args .clock .0) (c .before .before .before .before .before .args .address .now) (c .before .before .before .before .before .args .udp)) (c .before .before .before .before .before .args .self) (c .before .before .is-held .ensures) (c .before .is-verified .ensures) (c .both .ensures))
 
 pub not-verified-spec : {M : Type 1} → statement M
 not-verified-spec =
-    tie.close (tie.spec is-held-requires is-verified-requires both-requires returns)
+    tie.close (tie.spec (λ c κs. search needs) (λ c κs. search needs) (λ c κs. search needs) returns)

@@ -5,17 +5,8 @@ use borrow.Author.Needs.{needs}
 use Rattle.bucket_rules.proofs.Lookup.ping_out.Statement.{statement}
 use Rattle.bucket_rules.proofs.Lookup.ping_out.Tie as tie
 
-is-held-requires : tie.Need-is-held-requires
-is-held-requires c κs = search needs
-
-is-out-requires : tie.Need-is-out-requires
-is-out-requires c κs = search needs
-
-both-requires : tie.Need-both-requires
-both-requires c κs = search needs
-
 returns : tie.Need-returns
 returns c = any-found (λ e. isOut (e .ping)) (c .before .before .before .before .args .self) (c .before .before .is-held .ensures) (c .before .is-out .ensures) (c .both .ensures)
 
 pub ping-out-spec : {M : Type 1} → statement M
-ping-out-spec = tie.close (tie.spec is-held-requires is-out-requires both-requires returns)
+ping-out-spec = tie.close (tie.spec (λ c κs. search needs) (λ c κs. search needs) (λ c κs. search needs) returns)
