@@ -1,5 +1,5 @@
 #!/bin/sh
-# Writes the proofs by hand of the counted calls, each in a crate counted_NAME, of their by-value forms, and of their forms for C in the crate capi.
+# Writes the proofs by hand of the counted calls, each in a crate counted_NAME, and of their forms for C in the crate capi.
 cd "$(dirname "$0")/.." || exit 1
 
 # written MODE FOLDER NAME MODEL ANSWER KIND..: as public_call.py has them
@@ -10,15 +10,14 @@ written() {
     python3 tools/public_call.py "$mode" "$@" > "crates/$folder/Proof.antt" || exit 1
 }
 
-# both NAME MODEL ANSWER KIND..
-both() {
+# counted NAME MODEL ANSWER KIND..
+counted() {
     written call "counted_$1/proofs/$1" "$@"
-    written by-value "counted_$1/proofs/$1_with" "$@"
 }
 
-both datagram datagram received entry::MonotonicMillis entry::UnixSeconds slice u16 slice slice
-both ping_sent pingSent number entry::MonotonicMillis slice slice u16 u16 slice
-both sweep sweep number entry::MonotonicMillis
+counted datagram datagram received node::MonotonicMillis node::UnixSeconds slice u16 slice slice
+counted ping_sent pingSent number node::MonotonicMillis slice slice u16 u16 slice
+counted sweep sweep number node::MonotonicMillis
 
 # for_c NAME MODEL ANSWER KIND..
 for_c() {

@@ -22,7 +22,7 @@ use Rattle.bucket.specs.declared.EntryList.{EntryList}
 use Rattle.bucket.specs.declared.Bucket.{Bucket}
 use Rattle.bucket.specs.declared.Position.{Position}
 use Rattle.bucket.specs.declared.Position.the-variants.{Absent, InEntries, InReplacements}
-use Rattle.bucket.specs.Values.{listed, Holds, removeAt, indexOf, contents, Shows, Bounded, positionOf}
+use Rattle.bucket.specs.Steps.{listed, Holds, removeAt, indexOf, contents, Shows, InBounds, positionOf}
 
 -- the type says how long an array of structs is, of the list of their machine values
 pub length-mapped : (X Y : Type 0) (f : X → Y) (l : List X) (n : ℕ) → length (map f l) ≡ n → length l ≡ n
@@ -48,7 +48,7 @@ pub of-shown : (P : Contents → Type 0) (b : Bucket) (m : Contents) → Shows b
 of-shown P b m h = subst P (shown b m h)
 
 -- a bucket that shows contents within bounds is within bounds
-pub bounded-shown : (b : Bucket) (m : Contents) → Shows b m → length (m .entries) ≤ 16 → length (m .replacements) ≤ 4 → Bounded b
+pub bounded-shown : (b : Bucket) (m : Contents) → Shows b m → length (m .entries) ≤ 16 → length (m .replacements) ≤ 4 → InBounds b
 bounded-shown b m h n k = record { entries = omega (arith, h .entries .count); replacements = omega (arith, h .replacements .count) }
 
 -- ---- changes

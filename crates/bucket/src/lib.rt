@@ -7,7 +7,7 @@ ghost use lib.ListN.{length, getD, set};
 ghost use Rattle.octets.specs.Octets.{part, store};
 ghost use Rattle.bucket_model.specs.Contents.{noContents, entriesAt, encodeEntries, encodeList, encodeBucket, decodeBucket};
 ghost use Rattle.bucket_model.specs.Rules.{isOf, freeEntry};
-ghost use Rattle.bucket.specs.Values.{listed, Holds, removeAt, indexOf, contents, Shows, Bounded, positionOf};
+ghost use Rattle.bucket.specs.Steps.{listed, Holds, removeAt, indexOf, contents, Shows, InBounds, positionOf};
 use entry::Entry;
 
 // Up to sixteen entries in order; what lies past `len` says nothing.
@@ -120,7 +120,7 @@ fn load_list(bytes: &[u8], at: usize, n: usize) -> EntryList
     let mut l = EntryList::empty();
     let mut i = 0;
     while i < n {
-        let e = entry::load_entry(bytes, at + i * 143);
+        let e = entry::load_entry(bytes, at + i * Entry::SIZE);
         l.items[i] = e;
         i += 1;
     }
@@ -137,7 +137,7 @@ fn store_entries(bytes: &mut [u8], at: usize, l: EntryList)
     let mut i = 0;
     while i < len {
         let e = l.items[i];
-        entry::store_entry(bytes, at + i * 143, e);
+        entry::store_entry(bytes, at + i * Entry::SIZE, e);
         i += 1;
     }
 }
@@ -150,7 +150,7 @@ fn store_list(bytes: &mut [u8], at: usize, l: EntryList, cap: usize)
 {
     let len = l.len;
     store_entries(bytes, at, l);
-    octets::put_zeros(bytes, at + len * 143, (cap - len) * 143);
+    octets::put_zeros(bytes, at + len * Entry::SIZE, (cap - len) * Entry::SIZE);
 }
 
 impl Bucket {
@@ -161,6 +161,9 @@ impl Bucket {
 
     // The bytes of a bucket.
     pub const SIZE: usize = 2862;
+
+    // Where the first replacement stands in a bucket's bytes.
+    pub const REPLACEMENTS_AT: usize = 2290;
 
     // Nothing held.
     pub fn fresh() -> Bucket
@@ -175,7 +178,7 @@ impl Bucket {
 
     // Whether an entry is free.
     pub fn free_entry(self) -> bool
-        requires { ⌜ Bounded self ⌝ }
+        requires { ⌜ self .entries .len ≤ 16 ⌝ }
         ensures { λ r. ⌜ r ≡ freeEntry (contents self) ⌝ }
     {
         let entries = self.entries;
@@ -184,7 +187,7 @@ impl Bucket {
 
     // Where the node with this key is held.
     pub fn find(self, key: &[u8]) -> Position
-        requires { ⌜ Bounded self ⌝ }
+        requires { ⌜ InBounds self ⌝ }
         ensures { λ r. ⌜ r ≡ positionOf (now (key .entry)) (contents self) ⌝ }
     {
         let entries = self.entries;
@@ -208,7 +211,7 @@ impl Bucket {
         let entries = bytes[at] as usize;
         let replacements = bytes[at + 1] as usize;
         let entries = load_list(bytes, at + 2, entries);
-        let replacements = load_list(bytes, at + 2290, replacements);
+        let replacements = load_list(bytes, at + Bucket::REPLACEMENTS_AT, replacements);
         Bucket {
             entries,
             replacements,
@@ -217,7 +220,7 @@ impl Bucket {
 
     // Writes the byte form of the bucket from index `at`; no other byte changes.
     pub fn store(self, bytes: &mut [u8], at: usize)
-        requires { ⌜ (at + 2862 ≤ length (now bytes)) × Bounded self ⌝ }
+        requires { ⌜ (at + 2862 ≤ length (now bytes)) × InBounds self ⌝ }
         ensures { λ _. ⌜ now (bytes .exit) ≡ store (now (bytes .entry)) at (encodeBucket (contents self)) ⌝ }
         ensures { λ _. ⌜ length (encodeBucket (contents self)) ≡ 2862 ⌝ }
     {
@@ -225,7 +228,12 @@ impl Bucket {
         let replacements = self.replacements;
         octets::put_byte(bytes, at, entries.len as u8);
         octets::put_byte(bytes, at + 1, replacements.len as u8);
-        store_list(bytes, at + 2, entries, 16);
-        store_list(bytes, at + 2290, replacements, 4);
+        store_list(bytes, at + 2, entries, Bucket::ENTRIES);
+        store_list(
+            bytes,
+            at + Bucket::REPLACEMENTS_AT,
+            replacements,
+            Bucket::REPLACEMENTS,
+        );
     }
 }

@@ -10,11 +10,11 @@ use lib.Seq.{take-all}
 use Rattle.octets.specs.Octets.{Bytes, part, store, sameBytes}
 use Rattle.octets.proofs.Laws.{store-eq, part-all}
 use Rattle.entry.specs.declared.Entry.{Entry}
-use Rattle.entry.specs.declared.Endpoint.{Endpoint}
-use Rattle.entry.specs.declared.MonotonicMillis.{MonotonicMillis}
+use Rattle.node.specs.declared.Endpoint.{Endpoint}
+use Rattle.node.specs.declared.MonotonicMillis.{MonotonicMillis}
 use Rattle.entry.specs.declared.EndpointProof.the-variants.{Unproved}
 use Rattle.entry.specs.declared.PingState.the-variants.{Out}
-use Rattle.entry.specs.Nodes.{addressOf}
+use Rattle.node.specs.Nodes.{addressOf}
 use Rattle.bucket_model.specs.Rules.{pinged, endpointOf, newEntry}
 
 -- a compound test, of tests that are known

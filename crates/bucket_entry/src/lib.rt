@@ -5,12 +5,12 @@ ghost use Rattle.bucket_model.specs.Rules.{isProved, proofHolds, proofExpired, 
 ghost use mathlib.Core.Bool.{_&&_};
 ghost use lib.ListN.{length, take};
 ghost use Rattle.octets.specs.Octets.{sameBytes};
-ghost use Rattle.entry.specs.Nodes.{addressOf};
-use entry::Endpoint;
+ghost use Rattle.node.specs.Nodes.{addressOf};
 use entry::EndpointProof;
 use entry::Entry;
-use entry::MonotonicMillis;
 use entry::PingState;
+use node::Endpoint;
+use node::MonotonicMillis;
 
 // A pong is in time up to and including this many milliseconds after its ping.
 pub const PING_TIMEOUT: u64 = 500;

@@ -10,7 +10,7 @@ use Rattle.octets.specs.Octets.{Bytes, sameBytes}
 use Rattle.octets.proofs.Laws.{same-eq}
 use Rattle.lists.specs.Lists.{empty}
 use Rattle.lists.proofs.Laws.{byTest}
-use Rattle.entry.specs.declared.Endpoint.{Endpoint}
+use Rattle.node.specs.declared.Endpoint.{Endpoint}
 use Rattle.entry.specs.declared.Entry.{Entry}
 use Rattle.bucket_model.specs.Contents.{Contents}
 use Rattle.bucket_model.specs.Rules.{maxEntries, ofKey, held, pinged, ponged, heard, onPingSent, onPong, onHeard}

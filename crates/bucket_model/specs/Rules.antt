@@ -6,9 +6,9 @@ use lib.Dec.{leb, ltb, eqb}
 use lib.ListN.{length, replicate}
 use Rattle.octets.specs.Octets.{Bytes, sameBytes}
 use Rattle.lists.specs.Lists.{select, any, empty}
-use Rattle.entry.specs.declared.MonotonicMillis.{MonotonicMillis}
-use Rattle.entry.specs.declared.Endpoint.{Endpoint}
-use Rattle.entry.specs.Nodes.{addressOf}
+use Rattle.node.specs.declared.MonotonicMillis.{MonotonicMillis}
+use Rattle.node.specs.declared.Endpoint.{Endpoint}
+use Rattle.node.specs.Nodes.{addressOf}
 use Rattle.entry.specs.declared.Entry.{Entry}
 use Rattle.entry.specs.declared.EndpointProof.{EndpointProof}
 use Rattle.entry.specs.declared.EndpointProof.the-variants.{Unproved, At}

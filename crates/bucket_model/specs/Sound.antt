@@ -6,7 +6,7 @@ use lib.Dec.{eqb, leb}
 use lib.ListN.{length, getD, replicate}
 use Rattle.octets.specs.Octets.{Bytes, part, sameBytes}
 use Rattle.lists.specs.Lists.{any, all}
-use Rattle.entry.specs.declared.Endpoint.{Endpoint}
+use Rattle.node.specs.declared.Endpoint.{Endpoint}
 use Rattle.entry.specs.declared.Entry.{Entry}
 use Rattle.entry.specs.declared.EndpointProof.{EndpointProof}
 use Rattle.entry.specs.declared.EndpointProof.the-variants.{Unproved, At}

@@ -18,7 +18,7 @@ use Rattle.bucket_model.specs.Rules.{isOf, ofKey, without, update}
 use Rattle.bucket_model.specs.Sound.{distinct}
 use Rattle.bucket.specs.declared.Position.{Position}
 use Rattle.bucket.specs.declared.Position.the-variants.{Absent, InEntries, InReplacements}
-use Rattle.bucket.specs.Values.{removeAt, indexOf, positionOf}
+use Rattle.bucket.specs.Steps.{removeAt, indexOf, positionOf}
 
 -- ---- distinct keys of two lists
 

@@ -15,11 +15,10 @@ use Rattle.bucket_model.specs.Rules.{isOf, ofKey, without, update, toTail, held
 use Rattle.bucket_model.specs.Sound.{distinct}
 use Rattle.bucket.specs.declared.Position.{Position}
 use Rattle.bucket.specs.declared.Position.the-variants.{Absent, InEntries, InReplacements}
-use Rattle.bucket.specs.Values.{removeAt, indexOf, positionOf}
+use Rattle.bucket.specs.Steps.{removeAt, indexOf, positionOf}
 use Rattle.bucket_rules.specs.declared.Lookup.{Lookup}
-use Rattle.bucket_rules.specs.Found.{found, LooksUp}
+use Rattle.bucket_rules.specs.Steps.{found, LooksUp, putAt, tailAt, promoteAt, joinLine}
 use Rattle.bucket_rules.proofs.ByKey.{none-of, none-without, none-update, one-of, one-without, one-update, Found, located}
-use Rattle.bucket_rules.specs.Changes.{putAt, tailAt, promoteAt, joinLine}
 
 -- one entry of a list, which is the one of the key
 module _ (key : Bytes) (l : List Entry) (i : ℕ) (f : Entry → Entry) (e : Entry) (h : Found key l i) (one : ofKey key l ≡ e ∷ []) where

@@ -4,7 +4,7 @@ use mathlib.Core.Bool.{Bool, true, false}
 use mathlib.Core.List.{List, [], _∷_, _++_}
 use Prim.Native.Nat.{ℕ, _≤_, _<_}
 use native.Mathlib.Omega.{arith}
-use borrow.Author.Tests.{lt-ltb, le-ltb}
+use borrow.Author.Tests.{ltb-true}
 use lib.ListN.{length, set}
 use Rattle.entry.specs.declared.Entry.{Entry}
 use Rattle.bucket_model.specs.Contents.{Contents}
@@ -13,11 +13,15 @@ use Rattle.bucket.specs.declared.EntryList.{EntryList}
 use Rattle.bucket.specs.declared.Bucket.{Bucket}
 use Rattle.bucket.specs.declared.Position.{Position}
 use Rattle.bucket.specs.declared.Position.the-variants.{Absent, InEntries, InReplacements}
-use Rattle.bucket.specs.Values.{listed, Holds, removeAt, contents, Shows, Bounded}
+use Rattle.bucket.specs.Steps.{listed, Holds, removeAt, contents, Shows, InBounds}
 use Rattle.bucket.proofs.Laws.{length-listed, holds-listed}
-use Rattle.bucket_rules.specs.Changes.{putAt, tailAt, promoteAt, joinLine}
+use Rattle.bucket_rules.specs.Steps.{putAt, tailAt, promoteAt, joinLine}
 
-module _ (b : Bucket) (n : length (b .entries .items) ≡ 16) (k : length (b .replacements .items) ≡ 16) (h : Bounded b) where
+-- a free entry is room for one more
+pub room-for-one : (b : Bucket) → length (b .entries .items) ≡ 16 → b .entries .len ≤ 16 → freeEntry (contents b) ≡ true → b .entries .len < 16
+room-for-one b n h free = omega (arith, length-listed (b .entries) n h, ltb-true (length (listed (b .entries))) 16 free)
+
+module _ (b : Bucket) (n : length (b .entries .items) ≡ 16) (k : length (b .replacements .items) ≡ 16) (h : InBounds b) where
   entries-held : Holds (b .entries) (listed (b .entries))
   entries-held = holds-listed (b .entries) n (h .entries)
 
@@ -36,14 +40,10 @@ module _ (b : Bucket) (n : length (b .entries .items) ≡ 16) (k : length (b .re
   unchanged = record { entries = entries-held; replacements = replacements-held }
 
   module _ (i : ℕ) (e : Entry) where
-    pub promoted-free : (r q : EntryList) → b .entries .len < 16 → Holds r (listed (b .entries) ++ (e ∷ [])) → Holds q (removeAt i (listed (b .replacements)))
+    pub promoted-free : (r q : EntryList) → freeEntry (contents b) ≡ true → Holds r (listed (b .entries) ++ (e ∷ [])) → Holds q (removeAt i (listed (b .replacements)))
         → Shows (record { entries = r; replacements = q }) (promoteAt (InReplacements i) e (contents b))
-    promoted-free r q less hr hq =
-        let free : freeEntry (contents b) ≡ true = rw (length-listed (b .entries) n (h .entries)) (lt-ltb (b .entries .len) 16 less) in
-        rw free (record { entries = hr; replacements = hq })
+    promoted-free r q free hr hq = rw free (record { entries = hr; replacements = hq })
 
-    pub promoted-full : (q : EntryList) → 16 ≤ b .entries .len → Holds q (set (listed (b .replacements)) i e)
+    pub promoted-full : (q : EntryList) → freeEntry (contents b) ≡ false → Holds q (set (listed (b .replacements)) i e)
         → Shows (record { entries = b .entries; replacements = q }) (promoteAt (InReplacements i) e (contents b))
-    promoted-full q full hq =
-        let none : freeEntry (contents b) ≡ false = rw (length-listed (b .entries) n (h .entries)) (le-ltb (b .entries .len) 16 full) in
-        rw none (record { entries = entries-held; replacements = hq })
+    promoted-full q full hq = rw full (record { entries = entries-held; replacements = hq })

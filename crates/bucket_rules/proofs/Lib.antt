@@ -1,5 +1,5 @@
-pub mod BucketSweepLaws
-pub mod BucketLookupLaws
+pub mod SweepLaws
+pub mod LookupLaws
 pub mod ByKey
 pub mod ByPosition
 pub mod Laws

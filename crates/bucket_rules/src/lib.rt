@@ -4,18 +4,16 @@ ghost use mathlib.Core.Bool.{cond, not, _&&_, _||_};
 ghost use Prim.Native.Nat.{_≤_, _<_};
 ghost use Rattle.lists.specs.Lists.{select, any, empty};
 ghost use Rattle.bucket_model.specs.Rules.{onSweep, isOut, isOverdue, isAt, isVerified, isAwaited, onPingSent, onPong, onHeard};
-ghost use Rattle.bucket.specs.Values.{listed, Holds, contents, Shows, Bounded};
-ghost use Rattle.bucket_rules.specs.Sweep.{stays, promoteOne, promoteAll};
+ghost use Rattle.bucket.specs.Steps.{listed, Holds, contents, Shows, InBounds};
+ghost use Rattle.bucket_rules.specs.Steps.{stays, promoteOne, promoteAll, Ready, found, inEntries, LooksUp, Within, EntryAt, putAt, tailAt, promoteAt, joinLine};
 ghost use lib.Dec.{leb};
 ghost use lib.ListN.{getD, length};
 ghost use Rattle.entry.specs.Layout.{noEntry};
-ghost use Rattle.bucket_rules.specs.Found.{Ready, found, inEntries, LooksUp, Within, EntryAt};
-ghost use Rattle.bucket_rules.specs.Changes.{putAt, tailAt, promoteAt, joinLine};
 use bucket::Bucket;
 use bucket::EntryList;
 use bucket::Position;
 use entry::Entry;
-use entry::MonotonicMillis;
+use node::MonotonicMillis;
 
 // Whether an entry stays in the sweep's removals, a replacement where `waiting`.
 fn stays(e: Entry, waiting: bool, clock: MonotonicMillis) -> bool
@@ -64,11 +62,11 @@ fn promote_one(b: Bucket, e: Entry) -> Bucket
     let replacements = b.replacements;
     let proof = e.proof;
     let proved = bucket_entry::is_proved(proof);
-    let moves = bucket_entry::both(proved, entries.len < Bucket::ENTRIES);
+    let moves = bucket_entry::both(proved, b.free_entry());
     if moves {
-        let entries = entries.push(e);
+        let moved = entries.push(e);
         return Bucket {
-            entries,
+            entries: moved,
             replacements,
         };
     }
@@ -97,18 +95,15 @@ fn promote_all(b: Bucket, line: EntryList) -> Bucket
 // Sweep: nodes that did not answer in time go, then replacements with an expired proof; then proved replacements take
 // free entries at the tail in line order.
 pub fn sweep(b: Bucket, clock: MonotonicMillis) -> Bucket
-    requires { ⌜ Bounded b ⌝ }
+    requires { ⌜ InBounds b ⌝ }
     ensures { λ r. ⌜ Shows r (onSweep (clock .0) (contents b)) ⌝ }
 {
     let entries = b.entries;
     let replacements = b.replacements;
     let entries = kept(entries, false, clock);
     let line = kept(replacements, true, clock);
-    let replacements = EntryList::empty();
-    let start = Bucket {
-        entries,
-        replacements,
-    };
+    let mut start = Bucket::fresh();
+    start.entries = entries;
     promote_all(start, line)
 }
 
@@ -119,7 +114,7 @@ pub struct Lookup {
 }
 
 fn entry_at(b: Bucket, at: Position) -> Entry
-    requires { ⌜ Bounded b × Within at (contents b) ⌝ }
+    requires { ⌜ InBounds b × Within at (contents b) ⌝ }
     ensures { λ r. ⌜ EntryAt at (contents b) r ⌝ }
 {
     match at {
@@ -250,7 +245,7 @@ pub fn head(b: Bucket) -> Entry
 }
 
 fn put_at(b: Bucket, at: Position, e: Entry) -> Bucket
-    requires { ⌜ Bounded b × Within at (contents b) ⌝ }
+    requires { ⌜ InBounds b × Within at (contents b) ⌝ }
     ensures { λ r. ⌜ Shows r (putAt at e (contents b)) ⌝ }
 {
     let entries = b.entries;
@@ -275,7 +270,7 @@ fn put_at(b: Bucket, at: Position, e: Entry) -> Bucket
 }
 
 fn to_tail(b: Bucket, i: usize, e: Entry) -> Bucket
-    requires { ⌜ Bounded b × (i < b .entries .len) ⌝ }
+    requires { ⌜ InBounds b × (i < b .entries .len) ⌝ }
     ensures { λ r. ⌜ Shows r (tailAt (Position.InEntries i) e (contents b)) ⌝ }
 {
     let entries = b.entries;
@@ -288,7 +283,7 @@ fn to_tail(b: Bucket, i: usize, e: Entry) -> Bucket
 }
 
 fn tail_at(b: Bucket, at: Position, e: Entry) -> Bucket
-    requires { ⌜ Bounded b × Within at (contents b) ⌝ }
+    requires { ⌜ InBounds b × Within at (contents b) ⌝ }
     ensures { λ r. ⌜ Shows r (tailAt at e (contents b)) ⌝ }
 {
     match at {
@@ -299,16 +294,16 @@ fn tail_at(b: Bucket, at: Position, e: Entry) -> Bucket
 }
 
 fn promote(b: Bucket, i: usize, e: Entry) -> Bucket
-    requires { ⌜ Bounded b × (i < b .replacements .len) ⌝ }
+    requires { ⌜ InBounds b × (i < b .replacements .len) ⌝ }
     ensures { λ r. ⌜ Shows r (promoteAt (Position.InReplacements i) e (contents b)) ⌝ }
 {
     let entries = b.entries;
     let replacements = b.replacements;
-    if entries.len < Bucket::ENTRIES {
-        let entries = entries.push(e);
+    if b.free_entry() {
+        let seated = entries.push(e);
         let replacements = replacements.remove(i);
         return Bucket {
-            entries,
+            entries: seated,
             replacements,
         };
     }
@@ -320,7 +315,7 @@ fn promote(b: Bucket, i: usize, e: Entry) -> Bucket
 }
 
 fn promote_at(b: Bucket, at: Position, e: Entry) -> Bucket
-    requires { ⌜ Bounded b × Within at (contents b) ⌝ }
+    requires { ⌜ InBounds b × Within at (contents b) ⌝ }
     ensures { λ r. ⌜ Shows r (promoteAt at e (contents b)) ⌝ }
 {
     match at {
@@ -331,7 +326,7 @@ fn promote_at(b: Bucket, at: Position, e: Entry) -> Bucket
 }
 
 fn join_line(b: Bucket, e: Entry) -> Bucket
-    requires { ⌜ Bounded b ⌝ }
+    requires { ⌜ InBounds b ⌝ }
     ensures { λ r. ⌜ Shows r (joinLine e (contents b)) ⌝ }
 {
     let entries = b.entries;
@@ -343,9 +338,12 @@ fn join_line(b: Bucket, e: Entry) -> Bucket
     }
 }
 
+// ---- the rules, with the node that was looked up by its key
+
 // Ping sent: a held node gets its ping state and hash; a new one joins the end of the replacements.
 pub fn ping_sent(
     b: Bucket,
+    l: Lookup,
     key: &[u8],
     address: &[u8],
     udp: u16,
@@ -353,10 +351,9 @@ pub fn ping_sent(
     hash: &[u8],
     clock: MonotonicMillis,
 ) -> Bucket
-    requires { ⌜ Ready b × ((length (now key) ≡ 64) × ((length (now address) ≤ 16) × (length (now hash) ≡ 32))) ⌝ }
+    requires { ⌜ (Ready b × LooksUp (now key) (contents b) l) × ((length (now key) ≡ 64) × ((length (now address) ≤ 16) × (length (now hash) ≡ 32))) ⌝ }
     ensures { λ r. ⌜ Shows r (onPingSent (clock .0) (now (key .entry)) (now (address .entry)) udp tcp (now (hash .entry)) (contents b)) ⌝ }
 {
-    let l = look_up(b, key);
     let held = l.is_held();
     if held {
         let e = l.entry;
@@ -370,22 +367,20 @@ pub fn ping_sent(
 }
 
 // Pong: an entry goes to the tail; a replacement takes a free entry there, else stays in line.
-pub fn pong(b: Bucket, key: &[u8], clock: MonotonicMillis) -> Bucket
-    requires { ⌜ Ready b ⌝ }
+pub fn pong(b: Bucket, l: Lookup, key: &[u8], clock: MonotonicMillis) -> Bucket
+    requires { ⌜ Ready b × LooksUp (now key) (contents b) l ⌝ }
     ensures { λ r. ⌜ Shows r (onPong (clock .0) (now (key .entry)) (contents b)) ⌝ }
 {
-    let l = look_up(b, key);
     let e = l.entry;
     let at = l.position;
     promote_at(b, at, bucket_entry::ponged(e, clock))
 }
 
 // Another packet of a verified node: an entry goes to the tail, a replacement keeps its place in line.
-pub fn heard(b: Bucket, key: &[u8], clock: MonotonicMillis) -> Bucket
-    requires { ⌜ Ready b ⌝ }
+pub fn heard(b: Bucket, l: Lookup, key: &[u8], clock: MonotonicMillis) -> Bucket
+    requires { ⌜ Ready b × LooksUp (now key) (contents b) l ⌝ }
     ensures { λ r. ⌜ Shows r (onHeard (clock .0) (now (key .entry)) (contents b)) ⌝ }
 {
-    let l = look_up(b, key);
     let e = l.entry;
     let at = l.position;
     tail_at(b, at, bucket_entry::heard(e, clock))

@@ -20,7 +20,7 @@ use Rattle.bucket_model.specs.Contents.{entriesAt, encodeBucket, decodeBucket}
 use Rattle.bucket_model.specs.Rules.{isOf, isProved, isOut}
 use Rattle.bucket_model.specs.Sound.{proofBy, pingBy, inTime, addressForm, entrySound, mayWait, distinct, keepsRules, sound}
 use Rattle.bucket_model.proofs.ByteForm.{length-entriesAt}
-use Rattle.bucket_sound.specs.Records.{stampForm, stampBy, mayStand, recordSound, allRecords, keysApart}
+use Rattle.bucket_sound.specs.Steps.{stampForm, stampBy, mayStand, recordSound, allRecords, keysApart}
 use Rattle.bucket_sound.proofs.Tests.{both-ways, and-intro, and-same, and-true, or-false, not-or, all-append, all-same}
 use Rattle.bucket_sound.proofs.Forms.{entry-form, isForm, unused, bucket-form}
 use Rattle.bucket_sound.proofs.Steps.{allRecords-part, keysApart-part}

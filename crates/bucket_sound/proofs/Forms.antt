@@ -13,13 +13,13 @@ use Rattle.octets.specs.Octets.{Bytes, IsBytes, part, number, bigEndian, sameBy
 use Rattle.octets.proofs.Laws.{length-part, part-part, part-all, getD-part, bytes-part, length-bigEndian, bigEndian-number, number-bigEndian, same-refl, same-eq}
 use Rattle.lists.proofs.Laws.{byTest}
 use Rattle.entry.specs.declared.Stamp.{Stamp}
-use Rattle.entry.specs.declared.Endpoint.{Endpoint}
+use Rattle.node.specs.declared.Endpoint.{Endpoint}
 use Rattle.entry.specs.declared.Entry.{Entry}
 use Rattle.entry.specs.Layout.{encodeEntry, decodeEntry, encodeEndpoint, decodeEndpoint, encodeStamp, decodeStamp, proofStamp, proofOf, pingStamp, pingOf}
 use Rattle.entry.proofs.Laws.{IsEntry, length-encodeEntry, length-encodeStamp, decode-endpoint, decode-entry}
 use Rattle.bucket_model.specs.Contents.{Contents, entriesAt, encodeEntries, encodeList, encodeBucket, decodeBucket}
 use Rattle.bucket_model.proofs.ByteForm.{length-entriesAt, decode-is-entry, entriesAt-are, length-encodeEntries, length-encodeList}
-use Rattle.bucket_sound.specs.Records.{stampForm, allRecords}
+use Rattle.bucket_sound.specs.Steps.{stampForm, allRecords}
 use Rattle.bucket_sound.proofs.Tests.{both-ways, and-true, or-false, same-append, part-row}
 
 part-one : (s : Bytes) (at : ℕ) → at + 1 ≤ length s → part s at 1 ≡ getD s at 0 ∷ []

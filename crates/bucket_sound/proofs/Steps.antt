@@ -20,7 +20,7 @@ use Rattle.bucket_model.specs.Contents.{entriesAt}
 use Rattle.bucket_model.specs.Rules.{isOf, isProved, isOut}
 use Rattle.bucket_model.specs.Sound.{addressForm}
 use Rattle.bucket_model.proofs.ByteForm.{entriesAt-part}
-use Rattle.bucket_sound.specs.Records.{allRecords, keysApart}
+use Rattle.bucket_sound.specs.Steps.{allRecords, keysApart}
 use Rattle.bucket_sound.proofs.Tests.{both-ways}
 
 -- ---- zeros

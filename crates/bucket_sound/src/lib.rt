@@ -10,15 +10,12 @@ ghost use Rattle.entry.specs.Layout.{decodeEndpoint, proofOf, pingOf};
 ghost use Rattle.bucket_model.specs.Contents.{entriesAt};
 ghost use Rattle.bucket_model.specs.Rules.{isOf, isProved, isOut};
 ghost use Rattle.bucket_model.specs.Sound.{addressForm, sound};
-ghost use Rattle.bucket_sound.specs.Records.{homeIf, stampForm, stampBy, recordSound, allRecords, keysApart};
-use entry::MonotonicMillis;
+ghost use Rattle.bucket_sound.specs.Steps.{homeIf, stampForm, stampBy, recordSound, allRecords, keysApart};
+use bucket::Bucket;
+use bucket_entry::both;
+use entry::Entry;
 use entry::Stamp;
-
-fn both(a: bool, b: bool) -> bool
-    ensures { λ r. ⌜ r ≡ (a && b) ⌝ }
-{
-    if a { b } else { false }
-}
+use node::MonotonicMillis;
 
 fn stamp_form(s: Stamp) -> bool
     ensures { λ r. ⌜ r ≡ stampForm s ⌝ }
@@ -140,7 +137,7 @@ fn records_sound(
     while i < n {
         if !record_sound(
             bytes,
-            at + i * 143,
+            at + i * Entry::SIZE,
             own,
             number,
             clock,
@@ -172,7 +169,7 @@ fn absent(bytes: &[u8], key: usize, at: usize, n: usize) -> bool
 {
     let mut i = 0;
     while i < n {
-        if same_key(bytes, key, at + i * 143) {
+        if same_key(bytes, key, at + i * Entry::SIZE) {
             return false;
         }
         i += 1;
@@ -186,9 +183,9 @@ fn keys_apart(bytes: &[u8], at: usize, n: usize, other: usize, m: usize) -> bool
 {
     let mut i = 0;
     while i < n {
-        let key = at + i * 143;
+        let key = at + i * Entry::SIZE;
         if !both(
-            absent(bytes, key, key + 143, n - i - 1),
+            absent(bytes, key, key + Entry::SIZE, n - i - 1),
             absent(bytes, key, other, m),
         ) {
             return false;
@@ -212,24 +209,42 @@ fn sound_where(
 {
     let n = bytes[at] as usize;
     let m = bytes[at + 1] as usize;
-    if 16 < n {
+    if Bucket::ENTRIES < n {
         return false;
     }
-    if 4 < m {
+    if Bucket::REPLACEMENTS < m {
         return false;
     }
     let first = at + 2;
-    let line = at + 2290;
+    let line = at + Bucket::REPLACEMENTS_AT;
     let unused = both(
-        zeros(bytes, first + n * 143, (16 - n) * 143),
-        zeros(bytes, line + m * 143, (4 - m) * 143),
+        zeros(
+            bytes,
+            first + n * Entry::SIZE,
+            (Bucket::ENTRIES - n) * Entry::SIZE,
+        ),
+        zeros(
+            bytes,
+            line + m * Entry::SIZE,
+            (Bucket::REPLACEMENTS - m) * Entry::SIZE,
+        ),
     );
     let keys = both(
         keys_apart(bytes, first, n, line, m),
         keys_apart(bytes, line, m, line, 0),
     );
     let entries = records_sound(bytes, first, n, own, number, clock, true, false, tested);
-    let replacements = records_sound(bytes, line, m, own, number, clock, n == 16, true, tested);
+    let replacements = records_sound(
+        bytes,
+        line,
+        m,
+        own,
+        number,
+        clock,
+        n == Bucket::ENTRIES,
+        true,
+        tested,
+    );
     both(both(unused, keys), both(entries, replacements))
 }
 

@@ -4,12 +4,14 @@ use mathlib.Core.Bool.{cond}
 use lib.Dec.{eqb}
 use lib.ListN.{getD}
 use Rattle.octets.specs.Octets.{Bytes}
-use Rattle.entry.specs.declared.Node.{Node}
+use Rattle.node.specs.declared.Node.{Node}
 use Rattle.entry.specs.declared.Entry.{Entry}
 use Rattle.entry.specs.Layout.{noEntry}
-use Rattle.entry.specs.Nodes.{noNode, nodeOf}
+use Rattle.node.specs.Nodes.{noNode}
+use Rattle.entry.specs.Nodes.{nodeOf}
 use Rattle.bucket_model.specs.Contents.{Contents}
 use Rattle.bucket_model.specs.Rules.{pingDue, hasEntry, freeEntry}
+use Rattle.packet.specs.declared.Ping as ping
 use Rattle.packet.specs.declared.Pong as pong
 use Rattle.packet.specs.declared.Packet.{Packet}
 use Rattle.packet.specs.declared.Packet.the-variants as packet
@@ -45,15 +47,18 @@ named (Waiting ping) e = nodeOf e
 abbrev pub acceptedPong : Bytes → pong.Pong → Contents → Received
 acceptedPong key p b = record { outcome = Pong p (standing key b); head = named (standing key b) (headOf b) }
 
+-- a ping: a pong is due, and a ping too, if so
+abbrev pub acceptedPing : ℕ → Bytes → ℕ → Bytes → ping.Ping → Contents → Received
+acceptedPing now address udp key p b = plain (Ping p (pingDue now address udp key b))
+
 -- an accepted packet, with the bucket as it was given
 abbrev pub accepted : ℕ → Bytes → ℕ → Bytes → Packet → Contents → Received
-accepted now address udp key (packet.Ping p) b = plain (Ping p (pingDue now address udp key b))
+accepted now address udp key (packet.Ping p) b = acceptedPing now address udp key p b
 accepted now address udp key (packet.Pong p) b = acceptedPong key p b
 accepted now address udp key (packet.FindNode p) b = plain (FindNode p)
 accepted now address udp key (packet.Neighbors p) b = plain (Neighbors p)
 accepted now address udp key (packet.EnrRequest p) b = plain (EnrRequest p)
 accepted now address udp key (packet.EnrResponse p) b = plain (EnrResponse p)
-accepted now address udp key (packet.Refused n) b = refusal n
 
 -- the answer by its number
 abbrev pub unlessRefused : ℕ → Received → Received

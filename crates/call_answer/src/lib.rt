@@ -1,21 +1,21 @@
 // The answer to a datagram, of its sender's bucket by value.
 ghost use mathlib.Core.Path.{_≡_};
 ghost use Rattle.octets.specs.Octets.{Bytes};
+ghost use Rattle.bucket_model.specs.Contents.{Contents};
 ghost use Rattle.entry.specs.Nodes.{nodeOf};
-ghost use Rattle.bucket.specs.Values.{contents, Bounded};
-ghost use Rattle.bucket_rules.specs.Found.{LooksUp};
+ghost use Rattle.bucket.specs.Steps.{contents, InBounds};
+ghost use Rattle.bucket_rules.specs.Steps.{LooksUp};
 ghost use Rattle.call_answer.specs.Answer as spec;
 use bucket::Bucket;
 use bucket_rules::Lookup;
 use entry::Entry;
-use entry::MonotonicMillis;
-use entry::Node;
 use entry::PingState;
+use node::MonotonicMillis;
+use node::Node;
 use packet::EnrRequest;
 use packet::EnrResponse;
 use packet::FindNode;
 use packet::Neighbors;
-use packet::Packet;
 use packet::Ping;
 use packet::Pong;
 
@@ -68,8 +68,21 @@ pub fn number(received: Received) -> u8
 pub fn plain(outcome: Outcome) -> Received
     ensures { λ r. ⌜ r ≡ spec.plain outcome ⌝ }
 {
-    let head = entry::no_node();
+    let head = node::no_node();
     Received { outcome, head }
+}
+
+// The answer to an accepted ping of the node that was looked up.
+pub fn accepted_ping(
+    l: Lookup,
+    p: Ping,
+    clock: MonotonicMillis,
+    address: &[u8],
+    port: u16,
+) -> Received
+    ensures { λ r. ⌜ ((key : Bytes) (m : Contents) → LooksUp key m l → r ≡ spec.acceptedPing (clock .0) (now (address .entry)) port key p m) ⌝ }
+{
+    plain(Outcome::Ping(p, l.ping_due(address, port, clock)))
 }
 
 // The answer to the pong of a replacement that finds no free entry.
@@ -83,8 +96,8 @@ fn waiting(p: Pong, e: Entry) -> Received
 }
 
 // The answer to an accepted pong of the node that was looked up.
-fn accepted_pong(b: Bucket, l: Lookup, p: Pong) -> Received
-    requires { ⌜ Bounded b ⌝ }
+pub fn accepted_pong(b: Bucket, l: Lookup, p: Pong) -> Received
+    requires { ⌜ InBounds b ⌝ }
     ensures { λ r. ⌜ ((key : Bytes) → LooksUp key (contents b) l → r ≡ spec.acceptedPong key p (contents b)) ⌝ }
 {
     if l.has_entry() {
@@ -94,27 +107,4 @@ fn accepted_pong(b: Bucket, l: Lookup, p: Pong) -> Received
         return plain(Outcome::Pong(p, Standing::TookEntry));
     }
     waiting(p, bucket_rules::head(b))
-}
-
-// The answer to an accepted packet of the node that was looked up.
-pub fn accepted(
-    b: Bucket,
-    l: Lookup,
-    packet: Packet,
-    clock: MonotonicMillis,
-    address: &[u8],
-    port: u16,
-) -> Received
-    requires { ⌜ Bounded b ⌝ }
-    ensures { λ r. ⌜ ((key : Bytes) → LooksUp key (contents b) l → r ≡ spec.accepted (clock .0) (now (address .entry)) port key packet (contents b)) ⌝ }
-{
-    match packet {
-        Packet::Ping(p) => plain(Outcome::Ping(p, l.ping_due(address, port, clock))),
-        Packet::Pong(p) => accepted_pong(b, l, p),
-        Packet::FindNode(p) => plain(Outcome::FindNode(p)),
-        Packet::Neighbors(p) => plain(Outcome::Neighbors(p)),
-        Packet::EnrRequest(p) => plain(Outcome::EnrRequest(p)),
-        Packet::EnrResponse(p) => plain(Outcome::EnrResponse(p)),
-        Packet::Refused(n) => plain(Outcome::Refused(n)),
-    }
 }

@@ -7,37 +7,35 @@ use borrow.Author.Tests.{eqb-true, eqb-false, ne-eqb}
 use lib.Dec.{eqb, ltb}
 use lib.ListN.{length}
 use native.Mathlib.Omega.{arith}
+use Rattle.node.specs.Nodes.{isAddress}
 use Rattle.octets.specs.Octets.{Bytes}
 use Rattle.lists.specs.Lists.{first}
 use Rattle.lists.proofs.Laws.{byTest}
-use Rattle.entry.specs.declared.UnixSeconds.{UnixSeconds}
+use Rattle.node.specs.declared.UnixSeconds.{UnixSeconds}
 use Rattle.table_model.specs.Layout.{clockOf}
 use Rattle.packet.specs.declared.Packet.{Packet}
 use Rattle.packet.specs.declared.Packet.the-variants as packet
+use Rattle.packet.specs.declared.Parsed.{Parsed}
+use Rattle.packet.specs.declared.Parsed.the-variants as parsed
 use Rattle.packet_envelope.specs.Envelope.{isSized, hashMatches}
 use Rattle.packet_datagram.specs.Datagram.{readAt}
 use Rattle.packet_datagram.proofs.Refusals.{Refusable, refusable}
-use Rattle.call_history.specs.Model.{wrongLength, wrongHash, Reading, refused, isRefused, isAddress, isOwn, isKept, slot}
-use Rattle.call_model.specs.Reading.{faultOf, packetReading, reading}
+use Rattle.call_history.specs.Model.{wrongLength, wrongHash, Reading, refused, isRefused, isOwn, isKept, slot}
+use Rattle.call_model.specs.Reading.{faultOf, packetReading, parsedReading, reading}
 use Rattle.call_model.specs.Calls.{envOf, unsoundFor}
 use Rattle.table.specs.declared.Touched.the-variants.{NotKept, Slot}
-use Rattle.table.specs.Touched.{pick, touchedBy}
-use Rattle.call_touched.specs.Reached.{isWrongKey, isOwnKey}
+use Rattle.table.specs.Steps.{pick, touchedBy}
+use Rattle.call_touched.specs.Steps.{isWrongKey, isOwnKey}
 use Rattle.call_touched.proofs.Touch.{leads, is-touched}
-use Rattle.call_datagram.specs.declared.Judged.the-variants.{Refused, Passed}
-use Rattle.call_datagram.specs.Tests.{judgedBy, afterReading, judgedAt, judged}
+use Rattle.call_datagram.specs.declared.Judged.the-variants.{Refused}
+use Rattle.call_datagram.specs.Steps.{judgedBy, afterReading, judgedAt, passedTo, judged}
 
 -- ---- the tests of what a datagram reads as
 
 -- the number of a refused packet
-abbrev numberOr : Packet → ℕ → ℕ
-numberOr (packet.Ping p) x = x
-numberOr (packet.Pong p) x = x
-numberOr (packet.FindNode p) x = x
-numberOr (packet.Neighbors p) x = x
-numberOr (packet.EnrRequest p) x = x
-numberOr (packet.EnrResponse p) x = x
-numberOr (packet.Refused n) x = n
+abbrev numberOr : Parsed → ℕ → ℕ
+numberOr (parsed.Packet p) x = x
+numberOr (parsed.Refused n) x = n
 
 -- 8 to 11
 abbrev readTests : Reading → ℕ → ℕ
@@ -53,57 +51,46 @@ fault-tests n x h =
     (λ c. rw (a, b, c) (sym (eqb-true n 10 c)))
     (λ c. rw (a, b, c) (omega (arith, h .0, h .1, eqb-false n 8 a, eqb-false n 9 b, eqb-false n 10 c)))))
 
-read-tests : (g : Bytes) (p : Packet) (x : ℕ) → Refusable p → readTests (packetReading g p) x ≡ numberOr p x
-read-tests g (packet.Ping p) x h = refl
-read-tests g (packet.Pong p) x h = refl
-read-tests g (packet.FindNode p) x h = refl
-read-tests g (packet.Neighbors p) x h = refl
-read-tests g (packet.EnrRequest p) x h = refl
-read-tests g (packet.EnrResponse p) x h = refl
-read-tests g (packet.Refused n) x h = fault-tests n x h
+-- a packet has no fault
+faultless : (n : ℕ) (g : Bytes) (p : Packet) → isRefused n (packetReading g p) ≡ false
+faultless n g (packet.Ping p) = refl
+faultless n g (packet.Pong p) = refl
+faultless n g (packet.FindNode p) = refl
+faultless n g (packet.Neighbors p) = refl
+faultless n g (packet.EnrRequest p) = refl
+faultless n g (packet.EnrResponse p) = refl
 
--- a packet is of a datagram with the right length and hash
+read-tests : (g : Bytes) (r : Parsed) (x : ℕ) → Refusable r → readTests (parsedReading g r) x ≡ numberOr r x
+read-tests g (parsed.Packet p) x h = rw (faultless 8 g p, faultless 9 g p, faultless 10 g p, faultless 11 g p) refl
+read-tests g (parsed.Refused n) x h = fault-tests n x h
+
+-- what is read is of a datagram with the right length and hash
 fault-late : (n : ℕ) → (isRefused 3 (refused (faultOf n)) ≡ false) × (isRefused 4 (refused (faultOf n)) ≡ false)
 fault-late n =
     byTest (eqb n 8)
     (λ a. rw a (refl, refl))
     (λ a. byTest (eqb n 9) (λ b. rw (a, b) (refl, refl)) (λ b. byTest (eqb n 10) (λ c. rw (a, b, c) (refl, refl)) (λ c. rw (a, b, c) (refl, refl))))
 
-late : (g : Bytes) (p : Packet) → (isRefused 3 (packetReading g p) ≡ false) × (isRefused 4 (packetReading g p) ≡ false)
-late g (packet.Ping p) = (refl, refl)
-late g (packet.Pong p) = (refl, refl)
-late g (packet.FindNode p) = (refl, refl)
-late g (packet.Neighbors p) = (refl, refl)
-late g (packet.EnrRequest p) = (refl, refl)
-late g (packet.EnrResponse p) = (refl, refl)
-late g (packet.Refused n) = fault-late n
+late : (g : Bytes) (r : Parsed) → (isRefused 3 (parsedReading g r) ≡ false) × (isRefused 4 (parsedReading g r) ≡ false)
+late g (parsed.Packet p) = (faultless 3 g p, faultless 4 g p)
+late g (parsed.Refused n) = fault-late n
 
 -- ---- the tests together, by what each of them finds
 
--- the packet's own number, and 12
-last : (p : Packet) (kept : Bool) (i : ℕ) → Refusable p
-    → judgedBy (numberOr p (cond (not kept) 12 0)) (Passed i p) ≡ afterReading (pick kept (Slot i) NotKept) p
-last (packet.Ping p) true i h = refl
-last (packet.Ping p) false i h = refl
-last (packet.Pong p) true i h = refl
-last (packet.Pong p) false i h = refl
-last (packet.FindNode p) true i h = refl
-last (packet.FindNode p) false i h = refl
-last (packet.Neighbors p) true i h = refl
-last (packet.Neighbors p) false i h = refl
-last (packet.EnrRequest p) true i h = refl
-last (packet.EnrRequest p) false i h = refl
-last (packet.EnrResponse p) true i h = refl
-last (packet.EnrResponse p) false i h = refl
-last (packet.Refused n) kept i h = rw (ne-eqb n 0 (λ z. omega (arith, h .0))) refl
+-- the number of what was read, and 12
+last : (r : Parsed) (kept : Bool) (i : ℕ) → Refusable r
+    → judgedBy (numberOr r (cond (not kept) 12 0)) (passedTo i r) ≡ afterReading (pick kept (Slot i) NotKept) r
+last (parsed.Packet p) true i h = refl
+last (parsed.Packet p) false i h = refl
+last (parsed.Refused n) kept i h = rw (ne-eqb n 0 (λ z. omega (arith, h .0))) refl
 
--- the datagram reads as r: it has the right length, the right hash, and then holds the packet p
-abbrev reads : Bytes → Bool → Bool → Packet → Reading
-reads g sized matches p = cond sized (cond matches (packetReading g p) (refused wrongHash)) (refused wrongLength)
+-- the datagram reads as r: it has the right length, the right hash, and then p was read
+abbrev reads : Bytes → Bool → Bool → Parsed → Reading
+reads g sized matches p = cond sized (cond matches (parsedReading g p) (refused wrongHash)) (refused wrongLength)
 
 -- 5 to 12
-keyed : (whole own kept form : Bool) (p : Packet) (i : ℕ) → Refusable p
-    → judgedBy (cond (not whole) 5 (cond (not form) 6 (cond own 7 (numberOr p (cond (not kept) 12 0))))) (Passed i p)
+keyed : (whole own kept form : Bool) (p : Parsed) (i : ℕ) → Refusable p
+    → judgedBy (cond (not whole) 5 (cond (not form) 6 (cond own 7 (numberOr p (cond (not kept) 12 0))))) (passedTo i p)
     ≡ judgedBy (cond (isWrongKey (leads whole own kept i)) 5 (cond (not form) 6 (cond (isOwnKey (leads whole own kept i)) 7 0)))
     (afterReading (leads whole own kept i) p)
 keyed false own kept form p i h = refl
@@ -130,7 +117,7 @@ pub same-judged : (g : Bytes) (back sized matches whole own kept form : Bool) (u
     ∷ (isRefused 11 (reads g sized matches (readAt g unix)), 11)
     ∷ (not kept, 12)
     ∷ []))
-    (Passed i (readAt g unix))
+    (passedTo i (readAt g unix))
     ≡ judgedBy
     (first
     ((back, 2)
@@ -145,13 +132,13 @@ same-judged g true sized matches whole own kept form unix i = refl
 same-judged g false false matches whole own kept form unix i = refl
 same-judged g false true false whole own kept form unix i = refl
 same-judged g false true true whole own kept form unix i =
-    let p : Packet = readAt g unix in
-    let r : Reading = packetReading g p in
+    let p : Parsed = readAt g unix in
+    let r : Reading = parsedReading g p in
     let no = late g p in
     let keyTests : ℕ → ℕ = λ x. cond (not whole) 5 (cond (not form) 6 (cond own 7 x)) in
     let tests : cond (isRefused 3 r) 3 (cond (isRefused 4 r) 4 (keyTests (readTests r (cond (not kept) 12 0)))) ≡ keyTests (numberOr p (cond (not kept) 12 0)) =
     rw (no .0, no .1) (ap keyTests (read-tests g p (cond (not kept) 12 0) (refusable g unix))) in
-    ap (λ (n : ℕ). judgedBy n (Passed i p)) tests ∙ keyed whole own kept form p i (refusable g unix)
+    ap (λ (n : ℕ). judgedBy n (passedTo i p)) tests ∙ keyed whole own kept form p i (refusable g unix)
 
 -- ---- with 1
 

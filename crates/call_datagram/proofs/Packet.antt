@@ -7,7 +7,7 @@ use Rattle.bucket_model.specs.Contents.{Contents}
 use Rattle.bucket_model.specs.Rules.{notVerified, onHeard}
 use Rattle.call_history.specs.Model.{onPacket}
 use Rattle.bucket.specs.declared.Bucket.{Bucket}
-use Rattle.bucket.specs.Values.{Shows}
+use Rattle.bucket.specs.Steps.{Shows}
 
 -- `r` is what the code found of the sender
 module _ (now : ℕ) (address : Bytes) (udp : ℕ) (key : Bytes) (m : Contents) {r : Bool} (e : r ≡ notVerified now address udp key m) (b : Bucket) where

@@ -4,27 +4,31 @@ ghost use Prim.Native.Nat.{_≤_};
 ghost use lib.ListN.{length};
 ghost use Rattle.lists.specs.Lists.{first};
 ghost use Rattle.table_model.specs.Layout.{clockOf};
-ghost use Rattle.call_datagram.specs.Tests.{judgedAt, judged, datagramTests, keptSlot, afterReading};
+ghost use Rattle.call_datagram.specs.Steps.{judgedAt, judged, datagramTests, keptSlot, afterReading, Replies, RepliesTo, delivered, afterDelivery};
 ghost use mathlib.Core.List.{[], _∷_};
 ghost use Rattle.octets.specs.Octets.{Bytes};
 ghost use Rattle.bucket_model.specs.Contents.{Contents};
-ghost use Rattle.bucket_model.specs.Rules.{notVerified, notAwaited, isLate};
-ghost use Rattle.bucket.specs.Values.{contents, Shows};
-ghost use Rattle.bucket_rules.specs.Found.{Ready, LooksUp};
+ghost use Rattle.bucket_model.specs.Rules.{notVerified, notAwaited, isLate, onPong};
+ghost use Rattle.bucket.specs.Steps.{contents};
+ghost use Rattle.bucket_rules.specs.Steps.{Ready, LooksUp};
 ghost use Rattle.call_history.specs.Model as model;
-ghost use Rattle.call_model.specs.Reading.{packetReading, reading};
+ghost use Rattle.call_model.specs.Reading.{reading};
 ghost use Rattle.call_model.specs.Calls.{bytesAfter};
-ghost use Rattle.call_touched.specs.Reached.{SoundAt};
-ghost use Rattle.call_datagram.specs.Steps.{delivered, afterDelivery};
+ghost use Rattle.call_touched.specs.Steps.{SoundAt};
+ghost use Rattle.packet_span.specs.Parts.{bytesOf};
+ghost use Rattle.call_answer.specs.Answer.{plain, refusal, acceptedPing, acceptedPong};
 ghost use Rattle.call_datagram.specs.Received.{received};
 use bucket::Bucket;
 use bucket_rules::Lookup;
 use call_answer::Outcome;
 use call_answer::Received;
 use call_touched::Reach;
-use entry::MonotonicMillis;
-use entry::UnixSeconds;
+use node::MonotonicMillis;
+use node::UnixSeconds;
 use packet::Packet;
+use packet::Parsed;
+use packet::Ping;
+use packet::Pong;
 use table::Touched;
 
 // What the tests before the bucket's own find of a datagram.
@@ -48,13 +52,13 @@ fn datagram_number(
 {
     let last = table::clock(table);
     if clock.0 < last.0 {
-        return 2;
+        return numbers::CLOCK_BACK;
     }
     if !packet_envelope::is_sized(datagram) {
-        return 3;
+        return numbers::WRONG_LENGTH;
     }
     if !packet_envelope::hash_matches(datagram) {
-        return 4;
+        return numbers::WRONG_HASH;
     }
     call_touched::key_number(touched, address)
 }
@@ -64,25 +68,20 @@ fn kept_slot(touched: Touched, packet: Packet) -> Judged
     ensures { λ r. ⌜ r ≡ keptSlot touched packet ⌝ }
 {
     match touched {
-        Touched::WrongKey => Judged::Refused(12),
-        Touched::Own => Judged::Refused(12),
-        Touched::NotKept => Judged::Refused(12),
+        Touched::WrongKey => Judged::Refused(numbers::NOT_KEPT),
+        Touched::Own => Judged::Refused(numbers::NOT_KEPT),
+        Touched::NotKept => Judged::Refused(numbers::NOT_KEPT),
         Touched::Slot(slot) => Judged::Passed(slot, packet),
     }
 }
 
 // Answers 8 to 12, or what the sender's bucket is to get.
-fn after_reading(touched: Touched, packet: Packet) -> Judged
-    ensures { λ r. ⌜ r ≡ afterReading touched packet ⌝ }
+fn after_reading(touched: Touched, parsed: Parsed) -> Judged
+    ensures { λ r. ⌜ r ≡ afterReading touched parsed ⌝ }
 {
-    match packet {
-        Packet::Ping(_) => kept_slot(touched, packet),
-        Packet::Pong(_) => kept_slot(touched, packet),
-        Packet::FindNode(_) => kept_slot(touched, packet),
-        Packet::Neighbors(_) => kept_slot(touched, packet),
-        Packet::EnrRequest(_) => kept_slot(touched, packet),
-        Packet::EnrResponse(_) => kept_slot(touched, packet),
-        Packet::Refused(n) => Judged::Refused(n),
+    match parsed {
+        Parsed::Packet(packet) => kept_slot(touched, packet),
+        Parsed::Refused(n) => Judged::Refused(n),
     }
 }
 
@@ -118,19 +117,30 @@ pub fn judge(
 {
     let reached = call_touched::reached_by(table, signer);
     match reached {
-        Reach::Unsound => Judged::Refused(1),
+        Reach::Unsound => Judged::Refused(numbers::UNSOUND),
         Reach::At(touched) => judge_at(table, clock, unix, datagram, touched, address),
     }
 }
 
-// Answer 13, or 0: the sender must be verified.
-fn verified_number(l: Lookup, clock: MonotonicMillis, address: &[u8], port: u16) -> u8
-    ensures { λ r. ⌜ ((key : Bytes) (m : Contents) → LooksUp key m l → r ≡ first ((notVerified (clock .0) (now (address .entry)) port key m, 13) ∷ [])) ⌝ }
+// What a packet comes to at its sender's bucket.
+pub struct Reply {
+    // From 13 to 15, or 0.
+    pub number: u8,
+    // The bucket after a packet with the number 0.
+    pub after: Bucket,
+    pub answer: Received,
+}
+
+// The reply to a packet that changes nothing.
+fn refused(number: u8, b: Bucket) -> Reply
+    ensures { λ r. ⌜ r ≡ record { number = number; after = b; answer = refusal number } ⌝ }
 {
-    if l.not_verified(address, port, clock) {
-        return 13;
+    let answer = call_answer::plain(Outcome::Refused(number));
+    Reply {
+        number,
+        after: b,
+        answer,
     }
-    0
 }
 
 // Answers 14 and 15, or 0: the pong must be awaited and in time.
@@ -138,84 +148,131 @@ fn pong_number(l: Lookup, hash: &[u8], clock: MonotonicMillis, address: &[u8], p
     ensures { λ r. ⌜ ((key : Bytes) (m : Contents) → LooksUp key m l → r ≡ first ((notAwaited (now (hash .entry)) (now (address .entry)) port key m, 14) ∷ (isLate (clock .0) key m, 15) ∷ [])) ⌝ }
 {
     if l.not_awaited(hash, address, port) {
-        return 14;
+        return numbers::NOT_AWAITED;
     }
     if l.is_late(clock) {
-        return 15;
+        return numbers::LATE;
     }
-    0
+    numbers::DONE
 }
 
-// Answers 13 to 15, or 0, of a packet that the node sent.
-pub fn packet_number(
+// A ping: a verified sender is heard.
+fn on_ping(
+    b: Bucket,
+    l: Lookup,
+    p: Ping,
+    clock: MonotonicMillis,
+    address: &[u8],
+    port: u16,
+    signer: &[u8],
+) -> Reply
+    requires { ⌜ Ready b × LooksUp (now signer) (contents b) l ⌝ }
+    ensures { λ r. ⌜ Replies [] (model.onPacket (clock .0) (now (address .entry)) port (now (signer .entry)) (contents b)) (acceptedPing (clock .0) (now (address .entry)) port (now (signer .entry)) p (contents b)) r ⌝ }
+{
+    let answer = call_answer::accepted_ping(l, p, clock, address, port);
+    if l.not_verified(address, port, clock) {
+        return Reply {
+            number: numbers::DONE,
+            after: b,
+            answer,
+        };
+    }
+    let after = bucket_rules::heard(b, l, signer, clock);
+    Reply {
+        number: numbers::DONE,
+        after,
+        answer,
+    }
+}
+
+// A pong: it must be awaited and in time.
+fn on_pong(
+    b: Bucket,
+    l: Lookup,
+    p: Pong,
+    datagram: &[u8],
+    clock: MonotonicMillis,
+    address: &[u8],
+    port: u16,
+    signer: &[u8],
+) -> Reply
+    requires { ⌜ Ready b × LooksUp (now signer) (contents b) l ⌝ }
+    ensures { λ r. ⌜ Replies ((notAwaited (bytesOf (now (datagram .entry)) (p .«ping_hash»)) (now (address .entry)) port (now (signer .entry)) (contents b), 14) ∷ (isLate (clock .0) (now (signer .entry)) (contents b), 15) ∷ []) (onPong (clock .0) (now (signer .entry)) (contents b)) (acceptedPong (now (signer .entry)) p (contents b)) r ⌝ }
+{
+    let hash = p.ping_hash;
+    let n = pong_number(
+        l,
+        packet_span::bytes_of(datagram, hash),
+        clock,
+        address,
+        port,
+    );
+    if n != 0 {
+        return refused(n, b);
+    }
+    let after = bucket_rules::pong(b, l, signer, clock);
+    let answer = call_answer::accepted_pong(b, l, p);
+    Reply {
+        number: numbers::DONE,
+        after,
+        answer,
+    }
+}
+
+// A packet of type 3 to 6, answered with `outcome`: its sender must be verified, and is heard.
+fn on_other(
+    b: Bucket,
+    l: Lookup,
+    outcome: Outcome,
+    clock: MonotonicMillis,
+    address: &[u8],
+    port: u16,
+    signer: &[u8],
+) -> Reply
+    requires { ⌜ Ready b × LooksUp (now signer) (contents b) l ⌝ }
+    ensures { λ r. ⌜ Replies ((notVerified (clock .0) (now (address .entry)) port (now (signer .entry)) (contents b), 13) ∷ []) (model.onPacket (clock .0) (now (address .entry)) port (now (signer .entry)) (contents b)) (plain outcome) r ⌝ }
+{
+    if l.not_verified(address, port, clock) {
+        return refused(numbers::NOT_VERIFIED, b);
+    }
+    let after = bucket_rules::heard(b, l, signer, clock);
+    let answer = call_answer::plain(outcome);
+    Reply {
+        number: numbers::DONE,
+        after,
+        answer,
+    }
+}
+
+// The reply to a packet of the node that was looked up.
+fn on_packet(
+    b: Bucket,
     l: Lookup,
     packet: Packet,
     datagram: &[u8],
     clock: MonotonicMillis,
     address: &[u8],
     port: u16,
-) -> u8
-    ensures { λ r. ⌜ ((e : model.Env) (key : Bytes) (m : Contents) → LooksUp key m l → r ≡ first (model.packetRefusals e (clock .0) (now (address .entry)) port key (packetReading (now (datagram .entry)) packet) m)) ⌝ }
+    signer: &[u8],
+) -> Reply
+    requires { ⌜ Ready b × LooksUp (now signer) (contents b) l ⌝ }
+    ensures { λ r. ⌜ ((e : model.Env) → RepliesTo e (clock .0) (now (address .entry)) port (now (signer .entry)) (now (datagram .entry)) packet (contents b) r) ⌝ }
 {
     match packet {
-        Packet::Ping(_) => 0,
-        Packet::Pong(p) => {
-            let hash = p.ping_hash;
-            pong_number(
-                l,
-                packet_span::bytes_of(datagram, hash),
-                clock,
-                address,
-                port,
-            )
+        Packet::Ping(p) => on_ping(b, l, p, clock, address, port, signer),
+        Packet::Pong(p) => on_pong(b, l, p, datagram, clock, address, port, signer),
+        Packet::FindNode(p) => {
+            on_other(b, l, Outcome::FindNode(p), clock, address, port, signer)
         }
-        Packet::FindNode(_) => verified_number(l, clock, address, port),
-        Packet::Neighbors(_) => verified_number(l, clock, address, port),
-        Packet::EnrRequest(_) => verified_number(l, clock, address, port),
-        Packet::EnrResponse(_) => verified_number(l, clock, address, port),
-        Packet::Refused(_) => 0,
-    }
-}
-
-// The bucket after a packet other than a pong: a verified sender is heard.
-fn heard(
-    b: Bucket,
-    l: Lookup,
-    clock: MonotonicMillis,
-    address: &[u8],
-    port: u16,
-    signer: &[u8],
-) -> Bucket
-    requires { ⌜ Ready b × LooksUp (now signer) (contents b) l ⌝ }
-    ensures { λ r. ⌜ Shows r (model.onPacket (clock .0) (now (address .entry)) port (now (signer .entry)) (contents b)) ⌝ }
-{
-    if l.not_verified(address, port, clock) {
-        return b;
-    }
-    bucket_rules::heard(b, signer, clock)
-}
-
-// The bucket after an accepted packet.
-pub fn changed(
-    b: Bucket,
-    l: Lookup,
-    packet: Packet,
-    clock: MonotonicMillis,
-    address: &[u8],
-    port: u16,
-    signer: &[u8],
-) -> Bucket
-    requires { ⌜ Ready b × LooksUp (now signer) (contents b) l ⌝ }
-    ensures { λ r. ⌜ ((g : Bytes) → Shows r (model.onDatagram (clock .0) (now (address .entry)) port (now (signer .entry)) (packetReading g packet) (contents b))) ⌝ }
-{
-    match packet {
-        Packet::Ping(_) => heard(b, l, clock, address, port, signer),
-        Packet::Pong(_) => bucket_rules::pong(b, signer, clock),
-        Packet::FindNode(_) => heard(b, l, clock, address, port, signer),
-        Packet::Neighbors(_) => heard(b, l, clock, address, port, signer),
-        Packet::EnrRequest(_) => heard(b, l, clock, address, port, signer),
-        Packet::EnrResponse(_) => heard(b, l, clock, address, port, signer),
-        Packet::Refused(_) => b,
+        Packet::Neighbors(p) => {
+            on_other(b, l, Outcome::Neighbors(p), clock, address, port, signer)
+        }
+        Packet::EnrRequest(p) => {
+            on_other(b, l, Outcome::EnrRequest(p), clock, address, port, signer)
+        }
+        Packet::EnrResponse(p) => {
+            on_other(b, l, Outcome::EnrResponse(p), clock, address, port, signer)
+        }
     }
 }
 
@@ -236,13 +293,14 @@ fn deliver(
 {
     let b = call_touched::bucket_in(table, slot);
     let l = bucket_rules::look_up(b, signer);
-    let n = packet_number(l, packet, datagram, clock, address, port);
-    if n != 0 {
-        return call_answer::plain(Outcome::Refused(n));
+    let reply = on_packet(b, l, packet, datagram, clock, address, port, signer);
+    let answer = reply.answer;
+    if reply.number != 0 {
+        return answer;
     }
-    let after = changed(b, l, packet, clock, address, port, signer);
+    let after = reply.after;
     call_touched::put(table, slot, after, clock);
-    call_answer::accepted(b, l, packet, clock, address, port)
+    answer
 }
 
 // A datagram came from the sender's address and UDP port, signed with this key; the key is empty where the signature recovers none.

@@ -5,13 +5,13 @@ use mathlib.Core.Path.{_≡_, refl, ap, ap₂, sym, _∙_}
 use mathlib.Core.List.{List, [], _∷_}
 use Rattle.octets.specs.Octets.{Bytes}
 use Rattle.lists.specs.Lists.{All}
-use Rattle.call_history.specs.Model.{Env, Lawful, Call, Table, answer, next, fresh, answers, tableAfter, Run, start, advance, runFrom}
+use Rattle.call_history.specs.Model.{Env, Lawful, Call, Table, answer, next, fresh, answers, tableAfterAll, Run, start, advance, runFrom}
 use Rattle.call_history.specs.Chain.{IsCall, answersOn, bytesAfterAll, FollowsRules, Demand3OnBytes}
 use Rattle.call_history.proofs.Demand3.{demand3}
 use Rattle.call_history.proofs.Sound.{TableSound, IsTable, fresh-sound, fresh-values, next-sound, next-values}
 
 -- a run's table is the table after its calls
-pub run-table : (e : Env) (r : Run e) (cs : List Call) → runFrom e r cs .table ≡ tableAfter e (r .table) cs
+pub run-table : (e : Env) (r : Run e) (cs : List Call) → runFrom e r cs .table ≡ tableAfterAll e (r .table) cs
 run-table e r [] = refl
 run-table e r (c ∷ cs) = run-table e (advance e r c) cs
 
@@ -25,7 +25,7 @@ module _ (answerOn : Bytes → Call → ℕ) (bytesAfter : Bytes → Call → By
   module _ (law : Lawful e) (step : StepFollows) where
     from : (s : Table) → TableSound e s → IsTable e s → (calls : List Call) → All IsCall calls
         → (answersOn answerOn bytesAfter (encode s) calls ≡ answers e s calls)
-        × (bytesAfterAll answerOn bytesAfter (encode s) calls ≡ encode (tableAfter e s calls))
+        × (bytesAfterAll answerOn bytesAfter (encode s) calls ≡ encode (tableAfterAll e s calls))
     from s ok values [] is = (refl, refl)
     from s ok values (c ∷ cs) is =
         let one = step s c ok values (is .0) in

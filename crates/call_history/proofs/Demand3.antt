@@ -5,15 +5,18 @@ use native.Mathlib.Omega.{arith}
 use Rattle.octets.specs.Octets.{Bytes}
 use Rattle.call_history.specs.Model.{Env, Lawful, Call, next, slot, bucketOf, Run, start, advance, runFrom, run}
 use Rattle.call_history.specs.Words.{ProvedReplacement}
-use Rattle.call_history.specs.Demand3.{StayLasts, InOrder, TakesEntry, InTurn, Demand3}
+use Rattle.call_history.specs.Demand3.{StayLasts, InOrder, EntriesInOrder, TakesEntry, InTurn, Demand3}
 use Rattle.call_history.proofs.Step.{fresh-bucket}
-use Rattle.call_history.proofs.Sound.{TableSound, fresh-sound, next-sound}
+use Rattle.call_history.proofs.Sound.{TableSound, own-buckets, fresh-sound, next-sound}
 use Rattle.call_history.proofs.Log.{KnownIn, advance-known}
 use Rattle.call_history.proofs.Entry as Entry
 use Rattle.call_history.proofs.Isolated as Isolated
+use Rattle.call_history.proofs.Endpoint as Endpoint
 use Rattle.call_history.proofs.Order.{advance-order}
+use Rattle.call_history.proofs.Tail.{advance-entries}
 use Rattle.call_history.proofs.Stay as Stay
 use Rattle.call_history.proofs.Replacement as Replacement
+use Rattle.call_history.proofs.Seating as Seating
 
 module _ (e : Env) (law : Lawful e) where
   -- what every call keeps
@@ -21,6 +24,7 @@ module _ (e : Env) (law : Lawful e) where
     ok : TableSound e (r .table)
     known : (X : Bytes) → KnownIn e X (r .log) (bucketOf e (r .table) X)
     in-order : InOrder e r
+    entries-in-order : EntriesInOrder e r
     lasts : StayLasts e r
 
   kept-start : Kept (start e)
@@ -29,6 +33,7 @@ module _ (e : Env) (law : Lawful e) where
         ok = fresh-sound e law;
         known = λ X. rw (fresh-bucket e (slot e X)) (tt, tt);
         in-order = λ i. rw (fresh-bucket e i) tt;
+        entries-in-order = λ i. rw (fresh-bucket e i) tt;
         lasts = λ X. rw (fresh-bucket e (slot e X)) (λ in-line. absurd (omega arith));
       }
 
@@ -38,6 +43,7 @@ module _ (e : Env) (law : Lawful e) where
         ok = next-sound e (r .table) (k .ok) c;
         known = advance-known e r (k .ok) (k .known) c;
         in-order = advance-order e r (k .ok) (k .in-order) c;
+        entries-in-order = advance-entries e r (k .ok) (k .in-order) (k .entries-in-order) c;
         lasts = Stay.stay-lasts e r (k .ok) (k .lasts) c;
       }
 
@@ -72,15 +78,20 @@ module _ (e : Env) (law : Lawful e) where
   demand3 calls =
       record {
         loses-entry = λ earlier later c _. Entry.loses-entry e (run e earlier) (kept earlier .ok) (kept earlier .known) c;
-        isolated = λ earlier later _. Isolated.isolated e (run e earlier) (kept earlier .ok) later;
+        isolated = λ earlier later rest _. Isolated.isolated e (run e earlier) (kept earlier .ok) later;
+        keeps-endpoint = λ earlier later c _. Endpoint.keeps-endpoint e (run e earlier) (kept earlier .ok) c;
         bounded = λ earlier later _ i.
             let b = kept earlier .ok .each i in
-            (b .entries-bound, b .replacements-bound, b .once);
+            let own = own-buckets e (run e earlier .table) (kept earlier .ok) i in
+            (b .entries-bound, b .replacements-bound, b .once, own .0, own .1);
         leaves-replacements = λ earlier later c _. Replacement.leaves-replacements e (run e earlier) (kept earlier .ok) (kept earlier .known) c;
         takes-entry = λ earlier later c _. takes-entry (run e earlier) (kept earlier) c;
+        comes-to-entry = λ earlier later c _.
+            Seating.comes-to-entry e (run e earlier) (kept earlier .ok) (kept earlier .known) c (takes-entry (run e earlier) (kept earlier) c);
         in-turn = λ earlier later _ X w. in-turn (run e earlier) (kept earlier) X w later;
         stay-begins = λ earlier later c _. Stay.stay-begins e (run e earlier) (kept earlier .ok) c;
         stay-lasts = λ earlier later _. kept earlier .lasts;
         proved-by-pong = λ earlier later _. Stay.proved-by-pong e (run e earlier) (kept earlier .ok) (kept earlier .known);
         in-order = λ earlier later _. kept earlier .in-order;
+        entries-in-order = λ earlier later _. kept earlier .entries-in-order;
       }

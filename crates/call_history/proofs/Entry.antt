@@ -41,7 +41,7 @@ module _ (now : ℕ) (key : Bytes) (b : Contents) where
     abbrev Has : Contents → Type 0
     Has c = 0 < length (ofKey key (c .entries))
 
-    is-held : empty (held key b) ≡ false
+    pub is-held : empty (held key b) ≡ false
     is-held =
         byTest (empty (held key b))
         (λ g. absurd (omega (arith, empty-append (ofKey key (b .entries)) (ofKey key (b .replacements)) g .0)))

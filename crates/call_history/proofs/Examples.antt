@@ -11,6 +11,7 @@ use Rattle.entry.specs.declared.PingState.the-variants.{Quiet}
 use Rattle.bucket_model.specs.Rules.{millis, endpointOf, onPingSent, onPong, onHeard, onSweep}
 use Rattle.distance.specs.Distance.{distance, bitLength}
 use Rattle.call_history.specs.Model.{Env, Reading, refused, wrongLength, ping, pong, Call, datagram, pingSent, sweep, bucketNumber, datagramRefusals, pingSentRefusals, fresh, bucketOf, answers, run}
+use Rattle.call_history.specs.Words.{tailed}
 
 abbrev readFirst : Bytes → ℕ → Reading
 readFirst [] unix = refused wrongLength
@@ -119,3 +120,23 @@ pub in-turn : names (entriesAfter (eighteen ++ (packetFrom 17 10 ∷ pingTo 0 10
     ≡ 1 ∷ 2 ∷ 3 ∷ 4 ∷ 5 ∷ 6 ∷ 7 ∷ 8 ∷ 9 ∷ 10 ∷ 11 ∷ 12 ∷ 13 ∷ 14 ∷ 15 ∷ 16 ∷ []
 unfolding bucketNumber distance bitLength leadingZeros numberFrom bigEndian sameBytes datagramRefusals pingSentRefusals onPingSent onPong onHeard onSweep flatMap
 in-turn = refl
+
+-- two nodes, the first heard again: the fifth call puts it behind the second, which the fourth seated
+abbrev heardAgain : List Call
+heardAgain = pingTo 0 100 ∷ pongFrom 0 110 ∷ pingTo 1 120 ∷ pongFrom 1 130 ∷ packetFrom 0 140 ∷ []
+
+pub to-the-tail : names (entriesAfter heardAgain) ≡ 1 ∷ 0 ∷ []
+unfolding bucketNumber distance bitLength leadingZeros numberFrom bigEndian sameBytes datagramRefusals pingSentRefusals onPingSent onPong onHeard
+to-the-tail = refl
+
+pub last-tailed : map (tailed toy (run toy heardAgain .log)) (key 1 ∷ key 0 ∷ []) ≡ 4 ∷ 5 ∷ []
+unfolding bucketNumber distance bitLength leadingZeros numberFrom bigEndian sameBytes datagramRefusals pingSentRefusals onPingSent onPong onHeard
+last-tailed = refl
+
+-- nodes 0 and 1 don't answer their pings: one sweep, the 39th call, seats both in line
+abbrev oneSweep : List Call
+oneSweep = eighteen ++ (pingTo 0 100 ∷ pingTo 1 100 ∷ sweep 601 ∷ [])
+
+pub swept-together : map (tailed toy (run toy oneSweep .log)) (key 16 ∷ key 17 ∷ []) ≡ 39 ∷ 39 ∷ []
+unfolding bucketNumber distance bitLength leadingZeros numberFrom bigEndian sameBytes datagramRefusals pingSentRefusals onPingSent onPong onHeard onSweep flatMap
+swept-together = refl

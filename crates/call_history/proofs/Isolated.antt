@@ -17,7 +17,7 @@ use Rattle.bucket_model.specs.Rules.{maxEntries, ofKey, held, isVerified, pinge
 use Rattle.bucket_model.proofs.View.{own-heard, own-pong-stays, own-pong-takes, own-pinged}
 use Rattle.call_history.specs.Model.{Env, Reading, refused, ping, pong, other, Call, datagram, pingSent, sweep, closest, Table, slot, bucketOf, packetRefusals, datagramRefusals, pingSentRefusals, answer, Accepted, onPacket, onDatagram, effect, next, Run}
 use Rattle.call_history.specs.Words.{entryOf, replacementOf, HasEntry}
-use Rattle.call_history.specs.Demand3.{reading, NotFalling, LeftOut, nothing, same, less, countSweep, entryLostAt, Isolated}
+use Rattle.call_history.specs.Demand3.{clockReading, NotFalling, LeftOut, nothing, same, less, countSweep, entryLostAt, Isolated}
 use Rattle.call_history.proofs.Step.{byAnswer, own-bucket, datagram-keyed, ping-allowed, sweep-accepted}
 use Rattle.call_history.proofs.Sound.{TableSound, next-sound}
 use Rattle.call_history.proofs.View.{other-datagram, other-pingSent}
@@ -146,7 +146,7 @@ swept-at e X p s a now h =
 
 -- the same call does the same to the entry in both
 same-entry : (e : Env) (X : Bytes) (p : Entry) (s₁ s₂ : Table) → At e X p s₁ → At e X p s₂
-    → (last : ℕ) → s₁ .clock ≤ last → s₂ .clock ≤ last → (c : Call) → last ≤ reading last c
+    → (last : ℕ) → s₁ .clock ≤ last → s₂ .clock ≤ last → (c : Call) → last ≤ clockReading last c
     → entryOf e X (next e s₁ c) ≡ entryOf e X (next e s₂ c)
 same-entry e X p s₁ s₂ a₁ a₂ last t₁ t₂ (datagram now unix address udp key bytes) h =
     byTest (sameBytes X key)
@@ -174,15 +174,15 @@ same-entry e X p s₁ s₂ a₁ a₂ last t₁ t₂ (closest target room) h =
     unmoved : (s : Table) → entryOf e X (next e s (closest target room)) ≡ entryOf e X s
     unmoved s = byAnswer e (λ s′. entryOf e X s′ ≡ entryOf e X s) s (closest target room) (λ _. refl) (λ _. refl)
 
-effect-clock : (e : Env) (s : Table) (last : ℕ) → s .clock ≤ last → (c : Call) → effect e s c .clock ≤ reading last c
+effect-clock : (e : Env) (s : Table) (last : ℕ) → s .clock ≤ last → (c : Call) → effect e s c .clock ≤ clockReading last c
 effect-clock e s last h (datagram now unix address udp key bytes) = omega arith
 effect-clock e s last h (pingSent now key address udp tcp hash) = omega arith
 effect-clock e s last h (sweep now) = omega arith
 effect-clock e s last h (closest target room) = omega arith
 
-next-clock : (e : Env) (s : Table) (last : ℕ) → s .clock ≤ last → (c : Call) → last ≤ reading last c → next e s c .clock ≤ reading last c
+next-clock : (e : Env) (s : Table) (last : ℕ) → s .clock ≤ last → (c : Call) → last ≤ clockReading last c → next e s c .clock ≤ clockReading last c
 next-clock e s last h c g =
-    byAnswer e (λ s′. s′ .clock ≤ reading last c) s c (λ _. effect-clock e s last h c) (λ _. omega arith)
+    byAnswer e (λ s′. s′ .clock ≤ clockReading last c) s c (λ _. effect-clock e s last h c) (λ _. omega arith)
 
 -- ---- two lists of calls
 
@@ -214,7 +214,7 @@ module _ (e : Env) (X : Bytes) where
           (ih q (next e s₁ c) (next e s₂ c)
           (single (next e s₁ c) (next-sound e s₁ (a₁ .ok) c) q m h₁)
           (single (next e s₂ c) (next-sound e s₂ (a₂ .ok) c) q m h₂)
-          (reading last c) (next-clock e s₁ last t₁ c (rise .0)) (next-clock e s₂ last t₂ c (rise .0)) (rise .1) (countSweep c n))
+          (clockReading last c) (next-clock e s₁ last t₁ c (rise .0)) (next-clock e s₂ last t₂ c (rise .0)) (rise .1) (countSweep c n))
 
   alike-less : (now unix : ℕ) (address : Bytes) (udp : ℕ) (key bytes : Bytes) (cs ds : List Call) → (key ≡ X → ⊥)
       → Alike cs ds → Alike (datagram now unix address udp key bytes ∷ cs) ds

@@ -4,10 +4,12 @@ pub mod View
 pub mod Log
 pub mod Entry
 pub mod Isolated
+pub mod Endpoint
 pub mod Order
+pub mod Tail
 pub mod Stay
 pub mod Replacement
+pub mod Seating
 pub mod Demand3
-pub mod Endpoint
 pub mod Chain
 pub mod Examples

@@ -13,7 +13,7 @@ use Rattle.octets.proofs.Laws.{same-eq, same-refl}
 use Rattle.lists.specs.Lists.{select, empty, All}
 use Rattle.lists.proofs.Laws.{byTest, never, any-false, All-select, All-append, All-map, All-imp, All-left, All-right, All-and}
 use Rattle.entry.specs.declared.Entry.{Entry}
-use Rattle.entry.specs.declared.MonotonicMillis.{MonotonicMillis}
+use Rattle.node.specs.declared.MonotonicMillis.{MonotonicMillis}
 use Rattle.entry.specs.declared.PingState.the-variants.{Out}
 use Rattle.bucket_model.specs.Contents.{Contents}
 use Rattle.bucket_model.specs.Rules.{maxEntries, millis, ofKey, held, isOut, isProved, pinged, ponged, heard, staysEntry, staysReplacement, freeAfter, onPingSent, onPong, onHeard, onSweep, newEntry}
@@ -62,7 +62,7 @@ module _ (P Q : Entry → Type 0) (key : Bytes) (b : Contents) (both : Both P ke
       (own-joined now key b address udp tcp hash t) tt (new t, tt))
       (λ t. both-mapped now (pinged now hash) (onPingSent now key address udp tcp hash b) (own-pinged now key b address udp tcp hash t) (f t))
 
-both-sweep : (P : Entry → Type 0) (X : Bytes) (now : ℕ) (b : Contents) → Both P X b → Both P X (onSweep now b)
+pub both-sweep : (P : Entry → Type 0) (X : Bytes) (now : ℕ) (b : Contents) → Both P X b → Both P X (onSweep now b)
 both-sweep P X now b both =
     let line : All P (ofKey X (keptReplacements now b)) =
     rw (ofKey-kept X now b) (All-select P (staysReplacement now) (ofKey X (b .replacements)) (both .1)) in

@@ -1,7 +1,7 @@
 -- A line is in the order in which its nodes' stays began.
 use Prim.Native.Nat.{ℕ, _<_, _≤_}
 use mathlib.Core.Path.{_≡_, refl, ap, sym, _∙_}
-use mathlib.Core.Bool.{true, false, and-false}
+use mathlib.Core.Bool.{Bool, true, false, and-false}
 use mathlib.Core.List.{List, [], _∷_}
 use native.Mathlib.Omega.{arith}
 use borrow.Author.Tests.{ne-eqb, eq-eqb}
@@ -13,15 +13,14 @@ use Rattle.lists.proofs.Laws.{byTest, never, empty-append, All-imp, All-every, 
 use Rattle.entry.specs.declared.Entry.{Entry}
 use Rattle.bucket_model.specs.Contents.{Contents}
 use Rattle.bucket_model.specs.Rules.{isOf, ofKey, held, onPingSent}
-use Rattle.bucket_model.proofs.Sound.{EntrySound}
 use Rattle.bucket_model.proofs.Promotion.{Below, rising-heard, rising-pong, rising-pingSent, rising-sweep}
-use Rattle.call_history.specs.Model.{Env, Call, datagram, pingSent, sweep, closest, Table, slot, homeAt, bucketAt, bucketOf, answer, Accepted, onDatagram, next, Event, Run, advance}
-use Rattle.call_history.specs.Words.{begins, began}
+use Rattle.call_history.specs.Model.{Env, Call, datagram, pingSent, sweep, closest, Table, slot, bucketAt, bucketOf, answer, Accepted, onDatagram, next, Event, Run, advance}
+use Rattle.call_history.specs.Words.{OwnBucket, latest, begins, began}
 use Rattle.call_history.specs.Demand3.{InOrder}
-use Rattle.call_history.proofs.Step.{byDatagram, byAnswer, home-slot, datagram-keyed, ping-allowed, byBucket, swept-bucket}
-use Rattle.call_history.proofs.Sound.{TableSound}
+use Rattle.call_history.proofs.Step.{byDatagram, byAnswer, datagram-keyed, ping-allowed, byBucket, swept-bucket}
+use Rattle.call_history.proofs.Sound.{TableSound, own-buckets}
 
-other-key : (key X : Bytes) → sameBytes key X ≡ false → sameBytes X key ≡ false
+pub other-key : (key X : Bytes) → sameBytes key X ≡ false → sameBytes X key ≡ false
 other-key key X h = byTest (sameBytes X key) (λ g. never (sym (rw (same-eq X key g) (same-refl key)) ∙ h)) (λ g. g)
 
 none-of : (key : Bytes) (l : List Entry) → length (ofKey key l) ≡ 0 → All (λ p. isOf key p ≡ false) l
@@ -32,12 +31,12 @@ none-of key (p ∷ l) =
     (λ g. rw g (λ h. (refl, none-of key l h)))
 
 module _ (e : Env) where
-  began-le : (log : List (Event e)) (X : Bytes) → began e log X ≤ length log
-  began-le [] X = omega arith
-  began-le (v ∷ log) X =
-      byTest (begins e X (v .given) (v .call))
+  pub latest-le : (q : Event e → Bool) (log : List (Event e)) → latest e q log ≤ length log
+  latest-le q [] = omega arith
+  latest-le q (v ∷ log) =
+      byTest (q v)
       (λ h. rw h (omega arith))
-      (λ h. rw h (omega (arith, began-le log X)))
+      (λ h. rw h (omega (arith, latest-le q log)))
 
   -- a call that puts none of these nodes into a line leaves their order
   kept-order : (v : Event e) (log : List (Event e)) (l : List Entry) → All (λ p. begins e (p .key) (v .given) (v .call) ≡ false) l
@@ -45,6 +44,15 @@ module _ (e : Env) where
   kept-order v log =
       Rising-imp (Below (began e log)) (Below (began e (v ∷ log))) (λ p. begins e (p .key) (v .given) (v .call) ≡ false)
       (λ p q hp hq h. rw (hp, hq) h)
+
+  -- another bucket than the key's holds no entry of the key
+  pub none-away : (key : Bytes) (i : ℕ) → (i ≡ slot e key → ⊥) → (l : List Entry) → All (λ p. OwnBucket e i (p .key)) l
+      → All (λ p. isOf key p ≡ false) l
+  none-away key i away =
+      All-imp (λ p. OwnBucket e i (p .key)) (λ p. isOf key p ≡ false)
+      (λ p own. byTest (isOf key p)
+      (λ g. absurd (away (sym (own .2) ∙ ap (slot e) (sym (same-eq key (p .key) g)))))
+      (λ g. g))
 
   module _ (r : Run e) (ok : TableSound e (r .table)) (in-order : InOrder e r) where
     module _ (now : ℕ) (key address : Bytes) (udp tcp : ℕ) (hash : Bytes) where
@@ -71,14 +79,7 @@ module _ (e : Env) where
       elsewhere : (i : ℕ) → (i ≡ slot e key → ⊥) → Rising after (bucketAt e (r .table) i .replacements)
       elsewhere i away =
           let line = bucketAt e (r .table) i .replacements in
-          kept-order theEvent (r .log) line
-          (others line
-          (All-imp (EntrySound (homeAt e i) (r .table .clock)) (λ p. isOf key p ≡ false)
-          (λ p sp. byTest (isOf key p)
-          (λ g. absurd (away (sym (home-slot e (ok .lawful) (p .key) i (sp .at-home)) ∙ ap (slot e) (sym (same-eq key (p .key) g)))))
-          (λ g. g))
-          line (ok .each i .replacements-sound)))
-          (in-order i)
+          kept-order theEvent (r .log) line (others line (none-away key i away line (own-buckets e (r .table) ok i .1))) (in-order i)
 
       -- the key's bucket: a held node begins no stay, and a new one stands behind all that do
       here : Accepted e (r .table) theCall → Rising after (onPingSent now key address udp tcp hash theBucket .replacements)
@@ -94,7 +95,7 @@ module _ (e : Env) where
           (λ new.
           let put : begins e key (r .table) theCall ≡ true = rw (same-refl key, eq-eqb (answer e (r .table) theCall) 0 a, new) in
           All-imp Stays (λ p. began e (theEvent ∷ r .log) (p .key) < began e (theEvent ∷ r .log) key)
-          (λ p g. rw (g, put) (omega (arith, began-le (r .log) (p .key)))) line stay)
+          (λ p g. rw (g, put) (omega (arith, latest-le (λ v. begins e (p .key) (v .given) (v .call)) (r .log)))) line stay)
 
       pinged-order : (i : ℕ) → Rising after (bucketAt e (next e (r .table) theCall) i .replacements)
       pinged-order i =

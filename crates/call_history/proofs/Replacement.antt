@@ -15,11 +15,11 @@ use Rattle.lists.specs.Lists.{empty, before, All}
 use Rattle.lists.proofs.Laws.{byTest, never, empty-append, select-agree, length-select, All-select, All-before, All-map, All-imp, Rising-select}
 use Rattle.entry.specs.declared.Entry.{Entry}
 use Rattle.bucket_model.specs.Contents.{Contents}
-use Rattle.bucket_model.specs.Rules.{maxEntries, isOf, ofKey, held, isProved, pinged, ponged, heard, promoted, remaining, staysEntry, staysReplacement, freeAfter, onPingSent, onPong, onHeard}
+use Rattle.bucket_model.specs.Rules.{maxEntries, isOf, ofKey, held, pinged, ponged, heard, promoted, remaining, staysEntry, staysReplacement, freeAfter, onPingSent, onPong, onHeard}
 use Rattle.bucket_model.proofs.Keys.{promoted-or-remaining}
 use Rattle.bucket_model.proofs.View.{Mapped, own-heard, own-pong-stays, own-pinged, own-sweep, ofKey-kept}
 use Rattle.bucket_model.proofs.Promotion.{provedEntry, provedBefore, promoted-room, room-promoted, ofKey-remaining, lower-before}
-use Rattle.call_history.specs.Model.{Env, Reading, Call, datagram, pingSent, sweep, closest, Table, slot, bucketOf, Accepted, onDatagram, next, Run}
+use Rattle.call_history.specs.Model.{Env, Reading, Call, datagram, pingSent, sweep, closest, Table, slot, bucketOf, Accepted, onDatagram, next, Event, Run}
 use Rattle.call_history.specs.Words.{entryOf, replacementOf, HasEntry, AcceptedSweep, began, proved, ProvedReplacement, keptReplacements, ahead}
 use Rattle.call_history.specs.Demand3.{LeavesReplacements, HasRoomFor, TakesEntry, Drops, ProvedByPong, InOrder}
 use Rattle.call_history.proofs.Step.{byDatagram, byAnswer, swept-bucket}
@@ -118,6 +118,16 @@ module _ (e : Env) (s : Table) (ok : TableSound e s) where
 
   -- ---- a sweep
 
+  -- a node without an entry has one exactly if it is promoted
+  pub swept-entries : (X : Bytes) → length (entryOf e X s) ≡ 0 → (t : ℕ) → Accepted e s (sweep t)
+      → length (entryOf e X (next e s (sweep t))) ≡ length (ofKey X (promoted (freeAfter t (bucketOf e s X)) (keptReplacements e t s X)))
+  swept-entries X none t a =
+      let seated = ofKey X (promoted (freeAfter t (bucketOf e s X)) (keptReplacements e t s X)) in
+      byAnswer e (λ s′. length (entryOf e X s′) ≡ length seated) s (sweep t)
+      (λ _. rw (swept-bucket e s t (slot e X), own-sweep X t (bucketOf e s X) .entries)
+      (simp length-append (omega (arith, none, length-select (staysEntry t) (entryOf e X s)))))
+      (λ rejected. absurd (rejected a))
+
   module _ (X : Bytes) (w : Waits X (bucketOf e s X)) (t : ℕ) where
     abbrev free : ℕ
     free = freeAfter t (bucketOf e s X)
@@ -135,13 +145,6 @@ module _ (e : Env) (s : Table) (ok : TableSound e s) where
         (omega (arith, ok .each (slot e X) .once X, length-select (staysReplacement t) (replacementOf e X s)))
 
     module _ (a : Accepted e s (sweep t)) where
-      swept-entries : length (entryOf e X (next e s (sweep t))) ≡ length (ofKey X (promoted free line))
-      swept-entries =
-          byAnswer e (λ s′. length (entryOf e X s′) ≡ length (ofKey X (promoted free line))) s (sweep t)
-          (λ _. rw (swept-bucket e s t (slot e X), own-sweep X t (bucketOf e s X) .entries)
-          (simp length-append (omega (arith, w .no-entry, length-select (staysEntry t) (entryOf e X s)))))
-          (λ rejected. absurd (rejected a))
-
       swept-replacements : replacementOf e X (next e s (sweep t)) ≡ ofKey X (remaining free line)
       swept-replacements =
           byAnswer e (λ s′. replacementOf e X s′ ≡ ofKey X (remaining free line)) s (sweep t)
@@ -152,8 +155,9 @@ module _ (e : Env) (s : Table) (ok : TableSound e s) where
       after-sweep : HasEntry e X (next e s (sweep t)) ⊎ (Waits X (bucketOf e (next e s (sweep t)) X) ⊎ (length (ofKey X line) ≡ 0))
       after-sweep =
           let split = promoted-or-remaining X free line in
+          let count = swept-entries X (w .no-entry) t a in
           byTest (ltb 0 (length (ofKey X (promoted free line))))
-          (λ g. inl (omega (arith, swept-entries, ltb-true 0 (length (ofKey X (promoted free line))) g)))
+          (λ g. inl (omega (arith, ltb-true 0 (length (ofKey X (promoted free line))) g)))
           (λ g.
           let none = ltb-false 0 (length (ofKey X (promoted free line))) g in
           inr (byTest (ltb 0 (length (ofKey X line)))
@@ -162,11 +166,17 @@ module _ (e : Env) (s : Table) (ok : TableSound e s) where
           inl (record {
             in-line = rw swept-replacements (omega arith);
             is-proved = rw swept-replacements (ofKey-remaining IsProved X free line line-proved);
-            no-entry = omega (arith, swept-entries);
+            no-entry = omega arith;
           }))
           (λ f. inr (omega (arith, ltb-false 0 (length (ofKey X line)) f)))))
 
 -- ---- the sentences
+
+-- a proved entry of a node is one that the log proves
+pub log-proved : (e : Env) (X : Bytes) (log : List (Event e)) (l : List Entry) → 0 < length l → All (Known e X log) l → All IsProved l
+    → proved e log X ≡ true
+log-proved e X log [] h k a = absurd (omega arith)
+log-proved e X log (p ∷ l) h k a = sym (k .0 .proved-is) ∙ a .0
 
 module _ (e : Env) (r : Run e) (ok : TableSound e (r .table)) where
   waits : ((X : Bytes) → KnownIn e X (r .log) (bucketOf e (r .table) X)) → (X : Bytes) → ProvedReplacement e X r → Waits X (bucketOf e (r .table) X)
@@ -179,12 +189,7 @@ module _ (e : Env) (r : Run e) (ok : TableSound e (r .table)) where
 
   pub waits-proved : ((X : Bytes) → KnownIn e X (r .log) (bucketOf e (r .table) X)) → (X : Bytes) → Waits X (bucketOf e (r .table) X) → ProvedReplacement e X r
   waits-proved known X w =
-      let log-is = All-imp (Known e X (r .log)) (λ p. isProved (p .proof) ≡ proved e (r .log) X) (λ p kn. kn .proved-is) (replacementOf e X (r .table)) (known X .1) in
-      (w .in-line, one (replacementOf e X (r .table)) (w .in-line) log-is (w .is-proved))
-    where
-      one : (l : List Entry) → 0 < length l → All (λ p. isProved (p .proof) ≡ proved e (r .log) X) l → All IsProved l → proved e (r .log) X ≡ true
-      one [] h a c = absurd (omega arith)
-      one (p ∷ l) h a c = sym (a .0) ∙ c .0
+      (w .in-line, log-proved e X (r .log) (replacementOf e X (r .table)) (w .in-line) (known X .1) (w .is-proved))
 
   module _ (known : (X : Bytes) → KnownIn e X (r .log) (bucketOf e (r .table) X)) (c : Call) where
     pub leaves-replacements : LeavesReplacements e r c
@@ -218,7 +223,7 @@ module _ (e : Env) (r : Run e) (ok : TableSound e (r .table)) where
             let has′ : HasEntry e X (next e (r .table) (sweep t)) = rw is at has in
             let kept-line = keptReplacements e t (r .table) X in
             let room = freeAfter t (bucketOf e (r .table) X) in
-            let count = swept-entries e (r .table) ok X (waits known X w) t a in
+            let count = swept-entries e (r .table) ok X (waits known X w .no-entry) t a in
             let kept : 0 < length (ofKey X kept-line) = omega (arith, promoted-or-remaining X room kept-line) in (
               t,
               swept .1,
@@ -235,7 +240,7 @@ module _ (e : Env) (r : Run e) (ok : TableSound e (r .table)) where
             rw is
             (omega (
               arith,
-              swept-entries e (r .table) ok X (waits known X w) t a,
+              swept-entries e (r .table) ok X (waits known X w .no-entry) t a,
               room-promoted X room kept-line (line-proved e (r .table) ok X (waits known X w) t) (at .2) (omega (arith, at .3, ahead-before X t (at .2))),
             )),
       )

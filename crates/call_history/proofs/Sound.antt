@@ -7,24 +7,36 @@ use native.Mathlib.Omega.{arith}
 use borrow.Author.Tests.{ltb-true, ltb-false}
 use lib.Dec.{ltb}
 use lib.ListN.{length, length-map, length-replicate, List·getD-eq-default}
-use Rattle.lists.proofs.Laws.{byTest, length-modify}
+use Rattle.lists.proofs.Laws.{byTest, length-modify, All-imp}
+use Rattle.entry.specs.declared.Entry.{Entry}
 use Rattle.entry.proofs.Laws.{IsEntry}
 use Rattle.bucket_model.specs.Contents.{noContents}
 use Rattle.bucket_model.specs.Rules.{onPingSent, onSweep}
 use Rattle.bucket_model.proofs.Every.{Every}
 use Rattle.bucket_model.proofs.ByteForm.{IsContents}
 use Rattle.bucket_model.proofs.Values.{sound-contents, values-pingSent, values-pong, values-heard, values-sweep}
-use Rattle.bucket_model.proofs.Sound.{BucketSound}
+use Rattle.bucket_model.proofs.Sound.{EntrySound, BucketSound}
 use Rattle.bucket_model.proofs.Kept.{sound-later, sound-fresh, sound-pingSent, sound-pong, sound-heard, sound-sweep}
-use Rattle.call_history.specs.Model.{Env, Lawful, Call, datagram, pingSent, sweep, closest, Table, slot, homeAt, fresh, bucketAt, bucketOf, Accepted, onDatagram, effect, next, tableAfter}
+use Rattle.call_history.specs.Model.{Env, Lawful, Call, datagram, pingSent, sweep, closest, Table, slot, homeAt, fresh, bucketAt, bucketOf, Accepted, onDatagram, effect, next, tableAfterAll}
+use Rattle.call_history.specs.Words.{OwnBucket}
 use Rattle.call_history.specs.Chain.{IsCall}
-use Rattle.call_history.proofs.Step.{byDatagram, byAnswer, slot-home, datagram-keyed, ping-allowed, sweep-in-time, byBucket, swept-bucket, fresh-bucket}
+use Rattle.call_history.proofs.Step.{byDatagram, byAnswer, home-own, slot-home, datagram-keyed, ping-allowed, sweep-in-time, byBucket, swept-bucket, fresh-bucket}
 
 module _ (e : Env) where
   pub record TableSound (s : Table) : Type 0 where
     pub lawful : Lawful e
     pub sized : length (s .buckets) ≡ e .kept
     pub each : (i : ℕ) → BucketSound (homeAt e i) (s .clock) (bucketAt e s i)
+
+  -- every node stands in its own bucket
+  pub own-buckets : (s : Table) → TableSound s → (i : ℕ) → Every (λ p. OwnBucket e i (p .key)) (bucketAt e s i)
+  own-buckets s ok i =
+      let b = bucketAt e s i in
+      let own : (p : Entry) → EntrySound (homeAt e i) (s .clock) p → OwnBucket e i (p .key) =
+      λ p sp. home-own e (ok .lawful) (p .key) i (sp .at-home) in (
+        All-imp (EntrySound (homeAt e i) (s .clock)) (λ p. OwnBucket e i (p .key)) own (b .entries) (ok .each i .entries-sound),
+        All-imp (EntrySound (homeAt e i) (s .clock)) (λ p. OwnBucket e i (p .key)) own (b .replacements) (ok .each i .replacements-sound),
+      )
 
   no-bucket : (s : Table) (i : ℕ) → length (s .buckets) ≤ i → bucketAt e s i ≡ noContents
   no-bucket s i h = List·getD-eq-default (s .buckets) noContents h
@@ -152,6 +164,6 @@ module _ (e : Env) where
       next-values c is = byAnswer e IsTable s c (effect-values c is) (λ _. values)
 
   -- every list of calls leaves a sound table
-  pub sound-after : (s : Table) (cs : List Call) → TableSound s → TableSound (tableAfter e s cs)
+  pub sound-after : (s : Table) (cs : List Call) → TableSound s → TableSound (tableAfterAll e s cs)
   sound-after s [] ok = ok
   sound-after s (c ∷ cs) ok = sound-after (next e s c) cs (next-sound s ok c)

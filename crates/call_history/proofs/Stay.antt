@@ -16,13 +16,12 @@ use Rattle.entry.specs.declared.Entry.{Entry}
 use Rattle.bucket_model.specs.Contents.{Contents}
 use Rattle.bucket_model.specs.Rules.{maxEntries, isOf, ofKey, held, isProved, pinged, ponged, heard, staysReplacement, freeAfter, onPingSent, onPong, onHeard}
 use Rattle.bucket_model.proofs.Keys.{promoted-or-remaining}
-use Rattle.bucket_model.proofs.Sound.{EntrySound}
 use Rattle.bucket_model.proofs.View.{Mapped, keptReplacements, own-heard, own-pong-stays, own-pong-takes, own-pinged, own-joined, own-sweep, ofKey-kept}
-use Rattle.call_history.specs.Model.{Env, Reading, Call, datagram, pingSent, sweep, closest, Table, slot, homeAt, bucketAt, bucketOf, answer, onDatagram, next, Run, advance}
-use Rattle.call_history.specs.Words.{replacementOf, IsReplacement, begins, proved}
+use Rattle.call_history.specs.Model.{Env, Reading, Call, datagram, pingSent, sweep, closest, Table, slot, bucketAt, bucketOf, answer, onDatagram, next, Run, advance}
+use Rattle.call_history.specs.Words.{OwnBucket, replacementOf, IsReplacement, begins, proved}
 use Rattle.call_history.specs.Demand3.{StayBegins, StayLasts, ProvedByPong}
-use Rattle.call_history.proofs.Step.{byDatagram, byAnswer, home-slot, swept-bucket}
-use Rattle.call_history.proofs.Sound.{TableSound}
+use Rattle.call_history.proofs.Step.{byDatagram, byAnswer, swept-bucket}
+use Rattle.call_history.proofs.Sound.{TableSound, own-buckets}
 use Rattle.call_history.proofs.View as View
 use Rattle.call_history.proofs.Log.{Known, KnownIn}
 
@@ -146,5 +145,4 @@ proved-by-pong e r ok known i =
     each-own (λ X. slot e X ≡ i) (λ X p. isProved (p .proof) ≡ proved e (r .log) X) line
     (λ X is. rw is at
     (All-imp (Known e X (r .log)) (λ p. isProved (p .proof) ≡ proved e (r .log) X) (λ p kn. kn .proved-is) (replacementOf e X (r .table)) (known X .1)))
-    (All-imp (EntrySound (homeAt e i) (r .table .clock)) (λ p. slot e (p .key) ≡ i) (λ p sp. home-slot e (ok .lawful) (p .key) i (sp .at-home))
-    line (ok .each i .replacements-sound))
+    (All-imp (λ p. OwnBucket e i (p .key)) (λ p. slot e (p .key) ≡ i) (λ p own. own .2) line (own-buckets e (r .table) ok i .1))

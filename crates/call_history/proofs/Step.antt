@@ -5,9 +5,10 @@ use mathlib.Core.Logic.{inl, inr}
 use mathlib.Core.Bool.{true, false}
 use mathlib.Core.List.{[], _∷_, map}
 use native.Mathlib.Omega.{arith}
-use borrow.Author.Tests.{ltb-true, ltb-false, leb-true, eqb-true, eqb-false, eq-eqb, not-false, le-ltb}
+use borrow.Author.Tests.{ltb-true, ltb-false, leb-true, eqb-true, eqb-false, eq-eqb, not-false, le-leb, le-ltb}
 use lib.Dec.{eqb, ltb}
 use lib.ListN.{length, replicate, length-map, length-replicate, List·getD-eq-default, getD-replicate}
+use Rattle.node.specs.Nodes.{isAddress}
 use Rattle.octets.specs.Octets.{Bytes, IsBytes, sameBytes}
 use Rattle.octets.proofs.Laws.{same-refl}
 use Rattle.lists.specs.Lists.{modify}
@@ -17,22 +18,31 @@ use Rattle.bucket_model.specs.Rules.{notVerified, pingOut, noRoom, onPong, onHe
 use Rattle.bucket_model.proofs.Sound.{IsAddress}
 use Rattle.keccak.proofs.Laws.{keccak256-length, keccak256-bytes}
 use Rattle.distance.specs.Distance.{bitLength, home}
-use Rattle.call_history.specs.Model.{Env, Lawful, Reading, refused, ping, pong, other, Call, datagram, pingSent, sweep, Table, isOwn, isAddress, distanceTo, bucketNumber, firstKept, isKept, slot, homeAt, fresh, bucketAt, bucketOf, packetRefusals, datagramRefusals, pingSentRefusals, answer, Accepted, onDatagram, effect, next}
+use Rattle.call_history.specs.Model.{Env, Lawful, Fault, wrongLength, wrongHash, unknownType, badList, badField, expired, Reading, isRefused, refused, ping, pong, other, Call, datagram, pingSent, sweep, Table, isOwn, distanceTo, bucketNumber, firstKept, isKept, slot, homeAt, fresh, bucketAt, bucketOf, packetRefusals, datagramRefusals, pingSentRefusals, answer, Accepted, onDatagram, effect, next}
 use Rattle.call_history.specs.Keccak.{withKeccak}
-use Rattle.call_history.specs.Words.{isPong}
+use Rattle.call_history.specs.Words.{isPong, OwnBucket}
 use Rattle.distance.proofs.Laws.{distance-less, distance-zero, bitLength-positive, bitLength-most}
 use Rattle.distance.proofs.Buckets.{inBucket-bits}
 
 -- ---- by cases
 
--- what a packet does to its signer's bucket: nothing, it is heard, or its pong is taken
+-- what a packet does to its signer's bucket: nothing, where it is refused or its signer not verified; it is heard, or its pong is taken
+pub byPacket : (P : Contents → Type 0) (now : ℕ) (address : Bytes) (udp : ℕ) (key : Bytes) (r : Reading) (b : Contents)
+    → ((fault : Fault) → r ≡ refused fault → P b)
+    → (isPong r ≡ false → notVerified now address udp key b ≡ true → P b)
+    → (isPong r ≡ false → notVerified now address udp key b ≡ false → P (onHeard now key b))
+    → (isPong r ≡ true → P (onPong now key b))
+    → P (onDatagram now address udp key r b)
+byPacket P now address udp key (refused fault) b n f g h = n fault refl
+byPacket P now address udp key ping b n f g h = byTest (notVerified now address udp key b) (λ t. rw t (f refl t)) (λ t. rw t (g refl t))
+byPacket P now address udp key (pong hash) b n f g h = h refl
+byPacket P now address udp key other b n f g h = byTest (notVerified now address udp key b) (λ t. rw t (f refl t)) (λ t. rw t (g refl t))
+
 pub byDatagram : (P : Contents → Type 0) (now : ℕ) (address : Bytes) (udp : ℕ) (key : Bytes) (r : Reading) (b : Contents)
     → (isPong r ≡ false → P b) → (isPong r ≡ false → P (onHeard now key b)) → (isPong r ≡ true → P (onPong now key b))
     → P (onDatagram now address udp key r b)
-byDatagram P now address udp key (refused fault) b f g h = f refl
-byDatagram P now address udp key ping b f g h = byTest (notVerified now address udp key b) (λ t. rw t (f refl)) (λ t. rw t (g refl))
-byDatagram P now address udp key (pong hash) b f g h = h refl
-byDatagram P now address udp key other b f g h = byTest (notVerified now address udp key b) (λ t. rw t (f refl)) (λ t. rw t (g refl))
+byDatagram P now address udp key r b f g h =
+    byPacket P now address udp key r b (λ fault is. f (rw is)) (λ no _. f no) (λ no _. g no) h
 
 is-address : (address : Bytes) → isAddress address ≡ true → IsAddress address
 is-address address =
@@ -54,12 +64,12 @@ module _ (e : Env) where
     less : distanceTo e key < 2 ^ 256
     less = distance-less (e .own) (e .hash key) (law .own-size) (law .hash-size _) (law .own-bytes) (law .hash-bytes _)
 
-    pub home-slot : (i : ℕ) → homeAt e i key ≡ true → slot e key ≡ i
+    pub home-own : (i : ℕ) → homeAt e i key ≡ true → OwnBucket e i key
     unfolding bucketNumber
-    home-slot i h =
+    home-own i h =
         let bits : bitLength (distanceTo e key) ≡ firstKept e + i + 1 =
         eqb-true (bitLength (distanceTo e key)) (firstKept e + i + 1) (sym (inBucket-bits (firstKept e + i) (distanceTo e key) less) ∙ h) in
-        omega arith
+        (h, le-leb (firstKept e) (bucketNumber e key) (omega arith), omega arith)
 
     apart : isOwn e key ≡ false → distanceTo e key ≡ 0 → ⊥
     apart not-own none =
@@ -116,6 +126,26 @@ module _ (e : Env) where
         not-own = facts .1 .1 .1 .1 .1 .0;
         is-kept = not-false (isKept e key) (facts .1 .1 .1 .1 .1 .1 .1 .1 .1 .1 .0);
       }
+
+  -- it is read
+  pub datagram-read : (s : Table) (now unix : ℕ) (address : Bytes) (udp : ℕ) (key bytes : Bytes)
+      → Accepted e s (datagram now unix address udp key bytes) → (fault : Fault) → e .read bytes unix ≡ refused fault → ⊥
+  unfolding datagramRefusals
+  datagram-read s now unix address udp key bytes h fault is =
+      let r = e .read bytes unix in
+      let b = bucketOf e s key in
+      let facts : Passed (datagramRefusals e (s .clock) b now address udp key r) =
+      passed (datagramRefusals e (s .clock) b now address udp key r) (packet-numbered now address udp key r b) h in
+      go fault is facts
+    where
+      go : (fault : Fault) → e .read bytes unix ≡ refused fault
+          → Passed (datagramRefusals e (s .clock) (bucketOf e s key) now address udp key (e .read bytes unix)) → ⊥
+      go wrongLength is facts = never (sym (ap (isRefused 3) is) ∙ facts .1 .0)
+      go wrongHash is facts = never (sym (ap (isRefused 4) is) ∙ facts .1 .1 .0)
+      go unknownType is facts = never (sym (ap (isRefused 8) is) ∙ facts .1 .1 .1 .1 .1 .1 .0)
+      go badList is facts = never (sym (ap (isRefused 9) is) ∙ facts .1 .1 .1 .1 .1 .1 .1 .0)
+      go badField is facts = never (sym (ap (isRefused 10) is) ∙ facts .1 .1 .1 .1 .1 .1 .1 .1 .0)
+      go expired is facts = never (sym (ap (isRefused 11) is) ∙ facts .1 .1 .1 .1 .1 .1 .1 .1 .1 .0)
 
   pub record PingAllowed (s : Table) (now : ℕ) (key address hash : Bytes) : Type 0 where
     pub keyed : Keyed s now key address

@@ -8,21 +8,21 @@ use mathlib.Core.Option.{Option, none, some}
 use lib.ListN.{length}
 use Rattle.octets.specs.Octets.{Bytes}
 use Rattle.lists.specs.Lists.{empty, All, Rising}
-use Rattle.bucket_model.specs.Rules.{ofKey, isProved, freeAfter}
+use Rattle.bucket_model.specs.Rules.{ofKey, held, isProved, freeAfter}
 use Rattle.call_history.specs.Model.{Env, Call, datagram, pingSent, sweep, closest, Table, bucketOf, bucketAt, next, Run, advance, run}
-use Rattle.call_history.specs.Words.{entryOf, HasEntry, IsReplacement, AcceptedSweep, OpenPing, begins, InStay, began, proved, ProvedReplacement, keptReplacements, ahead}
+use Rattle.call_history.specs.Words.{OwnBucket, entryOf, HasEntry, IsReplacement, AcceptedSweep, pongFrom, OpenPing, begins, InStay, began, proved, ProvedReplacement, keptReplacements, ahead, TailedBefore}
 
--- the box clock reading of a call; a closest call has none, and counts as read when the last one was
-abbrev pub reading : ℕ → Call → ℕ
-reading last (datagram now unix address udp key bytes) = now
-reading last (pingSent now key address udp tcp hash) = now
-reading last (sweep now) = now
-reading last (closest target room) = last
+-- the box clock clockReading of a call; a closest call has none, and counts as read when the last one was
+abbrev pub clockReading : ℕ → Call → ℕ
+clockReading last (datagram now unix address udp key bytes) = now
+clockReading last (pingSent now key address udp tcp hash) = now
+clockReading last (sweep now) = now
+clockReading last (closest target room) = last
 
 -- the readings don't fall, from `last` on
 abbrev pub NotFalling : ℕ → List Call → Type 0
 NotFalling last [] = Unit {0}
-NotFalling last (c ∷ cs) = (last ≤ reading last c) × NotFalling (reading last c) cs
+NotFalling last (c ∷ cs) = (last ≤ clockReading last c) × NotFalling (clockReading last c) cs
 
 -- the second list is the first without some datagrams that another key than X signed, or none, every other call the same
 pub data LeftOut (X : Bytes) : List Call → List Call → Type 0 where
@@ -65,13 +65,23 @@ module _ (e : Env) where
       → (fewer : List Call) → LeftOut X later fewer
       → entryLostAt X (r .table) 0 later ≡ entryLostAt X (r .table) 0 fewer
 
-  -- "No bucket ever has more than 16 seats or 4 waiting places taken, and no node stands in it twice."
+  -- Against "pinging a held node where its last packet came from, so that one replayed packet from elsewhere unseats a live node":
+  -- where X is held, seated or waiting, before a call and after it, its endpoint (address, UDP port, TCP port) is the same.
+  abbrev pub KeepsEndpoint : Run e → Call → Type 0
+  KeepsEndpoint r c =
+      (X : Bytes)
+      → All (λ p. All (λ q. q .endpoint ≡ p .endpoint) (held X (bucketOf e (next e (r .table) c) X))) (held X (bucketOf e (r .table) X))
+
+  -- "No bucket ever has more than 16 seats or 4 waiting places taken, and no node stands in it twice." And "keys .. in their own
+  -- bucket": every node in it is one that `HasEntry` and `IsReplacement` find there.
   abbrev pub Bounded : Table → Type 0
   Bounded s =
       (i : ℕ)
       → (length (bucketAt e s i .entries) ≤ 16)
       × (length (bucketAt e s i .replacements) ≤ 4)
       × ((X : Bytes) → length (ofKey X (bucketAt e s i .entries)) + length (ofKey X (bucketAt e s i .replacements)) ≤ 1)
+      × All (λ p. OwnBucket e i (p .key)) (bucketAt e s i .entries)
+      × All (λ p. OwnBucket e i (p .key)) (bucketAt e s i .replacements)
 
   -- "A proved waiting node leaves the line only at a sweep."
   abbrev pub LeavesReplacements : Run e → Call → Type 0
@@ -90,6 +100,16 @@ module _ (e : Env) where
   -- after its removals, has free seats for it and for every proved node still ahead of it, and not sooner": at each call ..
   abbrev pub TakesEntry : Run e → Call → Type 0
   TakesEntry r c = (X : Bytes) → ProvedReplacement e X r → HasEntry e X (next e (r .table) c) ↔ HasRoomFor X r c
+
+  -- How a node comes to be seated, by the rules: with its pong "a waiting node takes a free seat", and a sweep seats "proved waiting
+  -- nodes in line order .. while seats are free". A node without an entry has one after the call exactly if it waits, the call is an
+  -- accepted pong from it, and an entry is free, or it is a proved replacement and the call has room for it.
+  abbrev pub ComesToEntry : Run e → Call → Type 0
+  ComesToEntry r c =
+      (X : Bytes) → (HasEntry e X (r .table) → ⊥)
+      → HasEntry e X (next e (r .table) c)
+      ↔ ((IsReplacement e X (r .table) × (pongFrom e X (r .table) c ≡ true) × (length (bucketOf e (r .table) X .entries) < 16))
+      ⊎ (ProvedReplacement e X r × HasRoomFor X r c))
 
   -- the call is an accepted sweep that does not keep X
   abbrev pub Drops : Bytes → Run e → Call → Type 0
@@ -125,16 +145,25 @@ module _ (e : Env) where
   abbrev pub InOrder : Run e → Type 0
   InOrder r = (i : ℕ) → Rising (λ p q. began e (r .log) (p .key) < began e (r .log) (q .key)) (bucketAt e (r .table) i .replacements)
 
-  -- Demand 3 of a whole list of calls: at each place of the list, `earlier` came before it.
+  -- "Head is the seat put at the tail longest ago": from the head on, a bucket's entries are in the order in which each was last put at
+  -- the tail, those that one sweep seated "in line order"
+  abbrev pub EntriesInOrder : Run e → Type 0
+  EntriesInOrder r = (i : ℕ) → Rising (λ p q. TailedBefore e (r .log) (p .key) (q .key)) (bucketAt e (r .table) i .entries)
+
+  -- Demand 3 of a whole list of calls: at each place of the list, `earlier` came before it. A node is isolated over every stretch
+  -- `later` in which readings don't fall, whatever comes after it.
   pub record Demand3 (calls : List Call) : Type 0 where
     pub loses-entry : (earlier later : List Call) (c : Call) → calls ≡ earlier ++ c ∷ later → LosesEntry (run e earlier) c
-    pub isolated : (earlier later : List Call) → calls ≡ earlier ++ later → Isolated (run e earlier) later
+    pub isolated : (earlier later rest : List Call) → calls ≡ earlier ++ later ++ rest → Isolated (run e earlier) later
+    pub keeps-endpoint : (earlier later : List Call) (c : Call) → calls ≡ earlier ++ c ∷ later → KeepsEndpoint (run e earlier) c
     pub bounded : (earlier later : List Call) → calls ≡ earlier ++ later → Bounded (run e earlier .table)
     pub leaves-replacements : (earlier later : List Call) (c : Call) → calls ≡ earlier ++ c ∷ later → LeavesReplacements (run e earlier) c
     pub takes-entry : (earlier later : List Call) (c : Call) → calls ≡ earlier ++ c ∷ later → TakesEntry (run e earlier) c
+    pub comes-to-entry : (earlier later : List Call) (c : Call) → calls ≡ earlier ++ c ∷ later → ComesToEntry (run e earlier) c
     pub in-turn : (earlier later : List Call) → calls ≡ earlier ++ later
         → (X : Bytes) → ProvedReplacement e X (run e earlier) → InTurn X (run e earlier) later
     pub stay-begins : (earlier later : List Call) (c : Call) → calls ≡ earlier ++ c ∷ later → StayBegins (run e earlier) c
     pub stay-lasts : (earlier later : List Call) → calls ≡ earlier ++ later → StayLasts (run e earlier)
     pub proved-by-pong : (earlier later : List Call) → calls ≡ earlier ++ later → ProvedByPong (run e earlier)
     pub in-order : (earlier later : List Call) → calls ≡ earlier ++ later → InOrder (run e earlier)
+    pub entries-in-order : (earlier later : List Call) → calls ≡ earlier ++ later → EntriesInOrder (run e earlier)

@@ -3,14 +3,15 @@
 use Prim.Native.Nat.{ℕ, _+_, _-_}
 use mathlib.Core.Path.{_≡_}
 use mathlib.Core.Bool.{Bool, false, cond, not, _||_}
-use mathlib.Core.List.{List, [], _∷_, map}
+use mathlib.Core.List.{List, [], _∷_, _++_, map}
 use lib.Dec.{leb, ltb, eqb}
 use lib.ListN.{length, getD, replicate}
+use Rattle.node.specs.Nodes.{isAddress}
 use Rattle.octets.specs.Octets.{Bytes, IsBytes, sameBytes}
 use Rattle.lists.specs.Lists.{first, modify}
 use Rattle.bucket_model.specs.Contents.{Contents, noContents}
 use Rattle.bucket_model.specs.Rules.{notVerified, notAwaited, isLate, heldElsewhere, pingOut, noRoom, onPingSent, onPong, onHeard, onSweep}
-use Rattle.distance.specs.Distance.{distance, inBucket, bitLength}
+use Rattle.distance.specs.Distance.{distance, inBucket, numberOfDistance, keepsNumber, slotOfNumber}
 
 -- why a datagram cannot be read, whatever the table holds
 pub data Fault : Type 0 where
@@ -66,9 +67,6 @@ pub record Table : Type 0 where
   pub clock : ℕ
   pub buckets : List Contents
 
-abbrev pub isAddress : Bytes → Bool
-isAddress address = eqb (length address) 4 || eqb (length address) 16
-
 -- a packet other than a pong: a verified sender is heard, of any other nothing changes
 abbrev pub onPacket : ℕ → Bytes → ℕ → Bytes → Contents → Contents
 onPacket now address udp key b = cond (notVerified now address udp key b) b (onHeard now key b)
@@ -78,6 +76,10 @@ onDatagram now address udp key (refused fault) b = b
 onDatagram now address udp key ping b = onPacket now address udp key b
 onDatagram now address udp key (pong hash) b = onPong now key b
 onDatagram now address udp key other b = onPacket now address udp key b
+
+-- 16 to 18
+abbrev pub heldRefusals : Bytes → ℕ → Bytes → Contents → List (Bool × ℕ)
+heldRefusals address udp key b = (heldElsewhere address udp key b, 16) ∷ (pingOut key b, 17) ∷ (noRoom key b, 18) ∷ []
 
 module _ (e : Env) where
   -- ---- which bucket a key falls in
@@ -89,18 +91,18 @@ module _ (e : Env) where
   distanceTo key = distance (e .own) (e .hash key)
 
   unfoldable pub bucketNumber : Bytes → ℕ
-  bucketNumber key = bitLength (distanceTo key) - 1
+  bucketNumber key = numberOfDistance (distanceTo key)
 
   -- "A table of B buckets keeps numbers 256−B to 255"
   abbrev pub firstKept : ℕ
   firstKept = 256 - e .kept
 
   abbrev pub isKept : Bytes → Bool
-  isKept key = leb firstKept (bucketNumber key)
+  isKept key = keepsNumber (e .kept) (bucketNumber key)
 
   -- where a key's bucket stands among those kept
   abbrev pub slot : Bytes → ℕ
-  slot key = bucketNumber key - firstKept
+  slot key = slotOfNumber (e .kept) (bucketNumber key)
 
   -- the key is in its own bucket where that stands at index i
   abbrev pub homeAt : ℕ → Bytes → Bool
@@ -125,8 +127,9 @@ module _ (e : Env) where
   packetRefusals now address udp key (pong hash) b = (notAwaited hash address udp key b, 14) ∷ (isLate now key b, 15) ∷ []
   packetRefusals now address udp key other b = (notVerified now address udp key b, 13) ∷ []
 
-  unfoldable pub datagramRefusals : ℕ → Contents → ℕ → Bytes → ℕ → Bytes → Reading → List (Bool × ℕ)
-  datagramRefusals clock b now address udp key r =
+  -- 2 to 12
+  abbrev pub datagramFront : ℕ → ℕ → Bytes → Bytes → Reading → List (Bool × ℕ)
+  datagramFront clock now address key r =
       (ltb now clock, 2)
       ∷ (isRefused 3 r, 3)
       ∷ (isRefused 4 r, 4)
@@ -138,20 +141,24 @@ module _ (e : Env) where
       ∷ (isRefused 10 r, 10)
       ∷ (isRefused 11 r, 11)
       ∷ (not (isKept key), 12)
-      ∷ packetRefusals now address udp key r b
+      ∷ []
 
-  unfoldable pub pingSentRefusals : ℕ → Contents → ℕ → Bytes → Bytes → ℕ → Bytes → List (Bool × ℕ)
-  pingSentRefusals clock b now key address udp hash =
+  unfoldable pub datagramRefusals : ℕ → Contents → ℕ → Bytes → ℕ → Bytes → Reading → List (Bool × ℕ)
+  datagramRefusals clock b now address udp key r = datagramFront clock now address key r ++ packetRefusals now address udp key r b
+
+  -- 2 to 12
+  abbrev pub pingSentFront : ℕ → ℕ → Bytes → Bytes → Bytes → List (Bool × ℕ)
+  pingSentFront clock now key address hash =
       (ltb now clock, 2)
       ∷ (not (eqb (length hash) 32), 4)
       ∷ (not (eqb (length key) 64), 5)
       ∷ (not (isAddress address), 6)
       ∷ (isOwn key, 7)
       ∷ (not (isKept key), 12)
-      ∷ (heldElsewhere address udp key b, 16)
-      ∷ (pingOut key b, 17)
-      ∷ (noRoom key b, 18)
       ∷ []
+
+  unfoldable pub pingSentRefusals : ℕ → Contents → ℕ → Bytes → Bytes → ℕ → Bytes → List (Bool × ℕ)
+  pingSentRefusals clock b now key address udp hash = pingSentFront clock now key address hash ++ heldRefusals address udp key b
 
   abbrev pub answer : Table → Call → ℕ
   answer s (datagram now unix address udp key bytes) =
@@ -185,9 +192,9 @@ module _ (e : Env) where
   answers s [] = []
   answers s (c ∷ cs) = answer s c ∷ answers (next s c) cs
 
-  abbrev pub tableAfter : Table → List Call → Table
-  tableAfter s [] = s
-  tableAfter s (c ∷ cs) = tableAfter (next s c) cs
+  abbrev pub tableAfterAll : Table → List Call → Table
+  tableAfterAll s [] = s
+  tableAfterAll s (c ∷ cs) = tableAfterAll (next s c) cs
 
   -- a call and the table that it was given
   pub record Event : Type 0 where

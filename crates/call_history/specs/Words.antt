@@ -1,4 +1,5 @@
--- The words of demand 3, from the calls and their answers: seated, waiting, a ping recorded, a pong, a stay in line, proved, ahead.
+-- The words of demand 3, from the calls and their answers: seated, waiting, a ping recorded, a pong, a stay in line, proved, ahead,
+-- last put at the tail.
 use Prim.Native.Nat.{ℕ, suc, _<_}
 use mathlib.Core.Path.{_≡_}
 use mathlib.Core.Logic.{_⊎_}
@@ -9,8 +10,8 @@ use lib.ListN.{length}
 use Rattle.octets.specs.Octets.{Bytes, sameBytes}
 use Rattle.lists.specs.Lists.{select, empty}
 use Rattle.entry.specs.declared.Entry.{Entry}
-use Rattle.bucket_model.specs.Rules.{ofKey, held, staysReplacement}
-use Rattle.call_history.specs.Model.{Env, Reading, refused, ping, pong, other, Call, datagram, pingSent, sweep, closest, Table, bucketOf, answer, Accepted, Event, Run}
+use Rattle.bucket_model.specs.Rules.{ofKey, held, notVerified, staysReplacement}
+use Rattle.call_history.specs.Model.{Env, Reading, refused, ping, pong, other, Call, datagram, pingSent, sweep, closest, Table, isKept, slot, homeAt, bucketOf, answer, Accepted, next, Event, Run}
 
 abbrev pub isPong : Reading → Bool
 isPong (refused fault) = false
@@ -20,6 +21,10 @@ isPong other = false
 
 module _ (e : Env) where
   -- ---- where the node with the key X stands
+
+  -- X's own bucket is kept and stands at index i: "Bucket i has 2^i ≤ distance < 2^(i+1)" holds of its number
+  abbrev pub OwnBucket : ℕ → Bytes → Type 0
+  OwnBucket i X = (homeAt e i X ≡ true) × (isKept e X ≡ true) × (slot e X ≡ i)
 
   abbrev pub entryOf : Bytes → Table → List Entry
   entryOf X s = ofKey X (bucketOf e s X .entries)
@@ -76,10 +81,14 @@ module _ (e : Env) where
   InStay X [] = ⊥
   InStay X (v ∷ log) = (begins X (v .given) (v .call) ≡ true) ⊎ (IsReplacement X (v .given) × InStay X log)
 
-  -- when the latest stay of X began: the number of that call, counted from 1
+  -- the number of the latest call that passes the test, counted from 1; 0 where none does
+  abbrev pub latest : (Event e → Bool) → List (Event e) → ℕ
+  latest q [] = 0
+  latest q (v ∷ log) = cond (q v) (suc (length log)) (latest q log)
+
+  -- when the latest stay of X began
   abbrev pub began : List (Event e) → Bytes → ℕ
-  began [] X = 0
-  began (v ∷ log) X = cond (begins X (v .given) (v .call)) (suc (length log)) (began log X)
+  began log X = latest (λ v. begins X (v .given) (v .call)) log
 
   -- "The node is proved from its first accepted pong in that stay"
   abbrev pub proved : List (Event e) → Bytes → Bool
@@ -98,3 +107,27 @@ module _ (e : Env) where
   abbrev pub ahead : ℕ → Run e → Bytes → List Entry
   ahead t r X =
       select (λ p. proved (r .log) (p .key) && ltb (began (r .log) (p .key)) (began (r .log) X)) (keptReplacements t (r .table) X)
+
+  -- ---- the order of the entries
+
+  -- "Other packets accepted": one from X, verified where it came from
+  abbrev pub heardFrom : Bytes → Table → Call → Bool
+  heardFrom X s (datagram now unix address udp key bytes) =
+      sameBytes X key
+      && (not (isPong (e .read bytes unix))
+      && (eqb (answer e s (datagram now unix address udp key bytes)) 0 && not (notVerified now address udp key (bucketOf e s key))))
+  heardFrom X s (pingSent now key address udp tcp hash) = false
+  heardFrom X s (sweep now) = false
+  heardFrom X s (closest target room) = false
+
+  -- the call puts X at the tail: it gives X an entry, or X has one and "goes to the tail" by its accepted pong or by another packet
+  abbrev pub tails : Bytes → Table → Call → Bool
+  tails X s c = cond (empty (entryOf X s)) (not (empty (entryOf X (next e s c)))) (pongFrom X s c || heardFrom X s c)
+
+  -- when X was last put at the tail
+  abbrev pub tailed : List (Event e) → Bytes → ℕ
+  tailed log X = latest (λ v. tails X (v .given) (v .call)) log
+
+  -- X was put at the tail longer ago than Y; where one sweep seated both, X's stay began earlier
+  abbrev pub TailedBefore : List (Event e) → Bytes → Bytes → Type 0
+  TailedBefore log X Y = (tailed log X < tailed log Y) ⊎ ((tailed log X ≡ tailed log Y) × (began log X < began log Y))

@@ -18,7 +18,7 @@ use Rattle.call_history.specs.Keccak.{withKeccak}
 use Rattle.call_history.specs.Chain.{IsCall}
 use Rattle.call_history.proofs.Sound.{TableSound, IsTable, next-sound, next-values}
 use Rattle.call_model.specs.Calls.{answerOn, effectOn, bytesAfter}
-use Rattle.call_model.specs.Demand3.{encode}
+use Rattle.call_model.specs.OverBytes.{encode}
 use Rattle.call_model.specs.AnyBytes.{OnAnyBytes}
 use Rattle.call_model.proofs.Form.{table-form, form-sound, form-values}
 use Rattle.call_model.proofs.Step.{step-follows}

@@ -8,7 +8,7 @@ use Rattle.call_history.specs.Keccak.{withKeccak}
 use Rattle.call_history.proofs.Step.{keccak-lawful}
 use Rattle.call_history.proofs.Chain.{demand3-on-bytes}
 use Rattle.call_model.specs.Calls.{answerOn, bytesAfter}
-use Rattle.call_model.specs.Demand3.{encode, Demand3OverBytes}
+use Rattle.call_model.specs.OverBytes.{encode, Demand3OverBytes}
 use Rattle.call_model.specs.Reading.{reading}
 use Rattle.call_model.proofs.Step.{step-follows}
 

@@ -21,7 +21,7 @@ use Rattle.call_history.specs.Keccak.{withKeccak}
 use Rattle.call_history.proofs.Sound.{TableSound, IsTable, table-sound}
 use Rattle.call_history.proofs.Step.{keccak-lawful}
 use Rattle.call_model.specs.Calls.{envOf, touches, bucketFor, unsoundFor}
-use Rattle.call_model.specs.Demand3.{encode}
+use Rattle.call_model.specs.OverBytes.{encode}
 
 -- 1 does not apply where the header is sound, and the key's bucket where it is touched
 pub both-sound : (header touched bucket : Bool) → ((header ≡ true) × (touched ≡ true → bucket ≡ true)) ↔ ((not header || (touched && not bucket)) ≡ false)

@@ -15,7 +15,7 @@ use Rattle.table_model.specs.Layout.{clockOf, headerSound}
 use Rattle.table_model.specs.Sound.{bucketSound, tableSound}
 use Rattle.call_history.specs.Model.{Env, Reading, refused, ping, pong, other, Call, datagram, pingSent, sweep, closest, isOwn, isKept, slot, datagramRefusals, pingSentRefusals}
 use Rattle.call_model.specs.Calls.{envOf, touches, bucketFor, unsoundFor, answerOn}
-use Rattle.call_model.specs.AnyBytes.{numbersOf, Touched, SoundForKey, SoundFor}
+use Rattle.call_model.specs.AnyBytes.{numbersOf, IsTouched, SoundForKey, SoundFor}
 use Rattle.call_model.proofs.Form.{both-sound}
 
 -- ---- which numbers
@@ -100,7 +100,7 @@ module _ (read : Bytes → ℕ → Reading) where
   others-not-one : (s : Bytes) (c : Call) → first (others s c) ≡ 1 → ⊥
   others-not-one s c h = never (sym (others-listed s c) ∙ ap (λ n. any (eqb n) (othersOf c)) h ∙ one-free c)
 
-  touched : (s key : Bytes) → (touches read s key ≡ true) ↔ Touched read s key
+  touched : (s key : Bytes) → (touches read s key ≡ true) ↔ IsTouched read s key
   touched s key =
       let whole = eqb (length key) 64 in
       let is-own = isOwn (envOf read s) key in

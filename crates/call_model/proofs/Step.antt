@@ -18,7 +18,7 @@ use Rattle.call_history.specs.Keccak.{withKeccak}
 use Rattle.call_history.proofs.Chain.{StepFollows}
 use Rattle.call_history.proofs.Sound.{next-sound, next-values}
 use Rattle.call_model.specs.Calls.{answerOn, atClock, withBucketFor, effectOn, bytesAfter}
-use Rattle.call_model.specs.Demand3.{encode}
+use Rattle.call_model.specs.OverBytes.{encode}
 use Rattle.call_model.proofs.Form.{slot-below, table-form, reads, not-unsound}
 
 module _ (read : Bytes → ℕ → Reading) (own : Bytes) (t : Table) (f : SoundTable own (t .clock) (t .buckets)) where

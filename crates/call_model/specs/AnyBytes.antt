@@ -24,12 +24,12 @@ numbersOf (closest target room) = 0 ∷ 1 ∷ 5 ∷ 19 ∷ []
 
 module _ (read : Bytes → ℕ → Reading) where
   -- "A bucket counts as touched where the key is 64 bytes, 7 doesn't apply and its bucket is kept"
-  abbrev pub Touched : Bytes → Bytes → Type 0
-  Touched s key = (length key ≡ 64) × (isOwn (envOf read s) key ≡ false) × (isKept (envOf read s) key ≡ true)
+  abbrev pub IsTouched : Bytes → Bytes → Type 0
+  IsTouched s key = (length key ≡ 64) × (isOwn (envOf read s) key ≡ false) × (isKept (envOf read s) key ≡ true)
 
   -- the header is sound, and the key's bucket where it is touched
   abbrev pub SoundForKey : Bytes → Bytes → Type 0
-  SoundForKey s key = (headerSound s ≡ true) × (Touched s key → bucketSound s (slot (envOf read s) key) ≡ true)
+  SoundForKey s key = (headerSound s ≡ true) × (IsTouched s key → bucketSound s (slot (envOf read s) key) ≡ true)
 
   -- all that the call touches is sound: "a sweep and a closest call touch all"
   abbrev pub SoundFor : Bytes → Call → Type 0

@@ -1,4 +1,4 @@
 pub mod Reading
 pub mod Calls
-pub mod Demand3
+pub mod OverBytes
 pub mod AnyBytes

@@ -7,20 +7,21 @@ use native.Mathlib.Omega.{arith}
 use borrow.Author.Tests.{eq-eqb, eqb-true, not-false}
 use lib.Dec.{eqb, ltb}
 use lib.ListN.{length}
+use Rattle.node.specs.Nodes.{isAddress}
 use Rattle.octets.specs.Octets.{Bytes}
 use Rattle.lists.specs.Lists.{first}
 use Rattle.lists.proofs.Laws.{byTest, passed}
 use Rattle.lists.proofs.Laws as lists
 use Rattle.lists.proofs.First.{first-append}
 use Rattle.table_model.specs.Layout.{clockOf}
-use Rattle.call_history.specs.Model.{Call, pingSent, isAddress, isOwn, isKept, slot, pingSentRefusals}
+use Rattle.call_history.specs.Model.{Call, pingSent, isOwn, isKept, slot, pingSentRefusals, heldRefusals}
 use Rattle.call_model.specs.Calls.{envOf, bucketFor, unsoundFor, answerOn, bytesAfter}
 use Rattle.call_model.specs.Reading.{reading}
-use Rattle.table.specs.Touched.{touchedBy}
-use Rattle.call_touched.specs.Reached.{SoundAt}
+use Rattle.table.specs.Steps.{touchedBy}
+use Rattle.call_touched.specs.Steps.{SoundAt}
 use Rattle.call_touched.proofs.Touch.{is-touched, sound-at}
 use Rattle.call_ping_sent.specs.declared.Placed.the-variants.{NotPlaced, In}
-use Rattle.call_ping_sent.specs.Steps.{placedBy, placedAt, pingSentFront, placed, heldTests, noteNumber, afterNote}
+use Rattle.call_ping_sent.specs.Steps.{placedBy, placedAt, pingSentFront, placed, noteNumber, afterNote}
 use Rattle.call_ping_sent.proofs.Placing.{same-placed}
 
 -- ---- what was placed, by its number
@@ -64,7 +65,7 @@ module _ (s : Bytes) (now : ℕ) (key address hash : Bytes) where
     front = pingSentFront s now key address hash
 
     abbrev rest : List (Bool × ℕ)
-    rest = heldTests address udp key (bucketFor reading s key)
+    rest = heldRefusals address udp key (bucketFor reading s key)
 
     answer-is : answerOn reading s call ≡ cond (eqb (first front) 0) (first rest) (first front)
     unfolding answerOn pingSentRefusals

@@ -4,7 +4,7 @@ use mathlib.Core.Bool.{Bool, true, false, not}
 use mathlib.Core.List.{[], _∷_}
 use Prim.Native.Nat.{ℕ}
 use Rattle.lists.specs.Lists.{first}
-use Rattle.call_touched.specs.Reached.{isWrongKey, isOwnKey}
+use Rattle.call_touched.specs.Steps.{isWrongKey, isOwnKey}
 use Rattle.call_touched.proofs.Touch.{leads}
 use Rattle.call_ping_sent.specs.declared.Placed.the-variants.{In}
 use Rattle.call_ping_sent.specs.Steps.{placedBy, keptPlace}

@@ -6,15 +6,15 @@ use lib.Dec.{eqb, ltb}
 use lib.ListN.{length}
 use Rattle.octets.specs.Octets.{Bytes}
 use Rattle.lists.specs.Lists.{first}
-use Rattle.bucket_model.specs.Contents.{Contents}
-use Rattle.bucket_model.specs.Rules.{heldElsewhere, pingOut, noRoom, onPingSent}
+use Rattle.bucket_model.specs.Rules.{onPingSent}
 use Rattle.table_model.specs.Layout.{clockOf, bucketAt}
-use Rattle.call_history.specs.Model.{isAddress, isOwn, isKept, slot}
+use Rattle.call_history.specs.Model.{slot, heldRefusals}
+use Rattle.call_history.specs.Model as model
 use Rattle.call_model.specs.Calls.{envOf, unsoundFor}
 use Rattle.call_model.specs.Reading.{reading}
 use Rattle.table.specs.declared.Touched.{Touched}
 use Rattle.table.specs.declared.Touched.the-variants.{WrongKey, Own, NotKept, Slot}
-use Rattle.call_touched.specs.Reached.{keyTests, withBucket}
+use Rattle.call_touched.specs.Steps.{keyTests, withBucket}
 use Rattle.call_ping_sent.specs.declared.Placed.{Placed}
 use Rattle.call_ping_sent.specs.declared.Placed.the-variants.{NotPlaced, In}
 
@@ -24,15 +24,7 @@ pingSentTests clock now hash t address = (ltb now clock, 2) ∷ (not (eqb (lengt
 
 -- 1 to 12, in document 01's order: the first lines of its table of answer numbers
 abbrev pub pingSentFront : Bytes → ℕ → Bytes → Bytes → Bytes → List (Bool × ℕ)
-pingSentFront s now key address hash =
-    (unsoundFor reading s key, 1)
-    ∷ (ltb now (clockOf s), 2)
-    ∷ (not (eqb (length hash) 32), 4)
-    ∷ (not (eqb (length key) 64), 5)
-    ∷ (not (isAddress address), 6)
-    ∷ (isOwn (envOf reading s) key, 7)
-    ∷ (not (isKept (envOf reading s) key), 12)
-    ∷ []
+pingSentFront s now key address hash = (unsoundFor reading s key, 1) ∷ model.pingSentFront (envOf reading s) (clockOf s) now key address hash
 
 abbrev pub placedBy : ℕ → Placed → Placed
 placedBy n p = cond (eqb n 0) p (NotPlaced n)
@@ -49,14 +41,10 @@ placedAt clock now hash t address = placedBy (first (pingSentTests clock now has
 unfoldable pub placed : Bytes → ℕ → Bytes → Bytes → Bytes → Placed
 placed s now key address hash = placedBy (first (pingSentFront s now key address hash)) (In (slot (envOf reading s) key))
 
--- 16 to 18, of the bucket of a key
-abbrev pub heldTests : Bytes → ℕ → Bytes → Contents → List (Bool × ℕ)
-heldTests address udp key b = (heldElsewhere address udp key b, 16) ∷ (pingOut key b, 17) ∷ (noRoom key b, 18) ∷ []
-
 -- ---- a ping that was sent is noted in the bucket in a slot
 
 unfoldable pub noteNumber : Bytes → ℕ → Bytes → ℕ → Bytes → ℕ
-noteNumber s slot address udp key = first (heldTests address udp key (bucketAt s slot))
+noteNumber s slot address udp key = first (heldRefusals address udp key (bucketAt s slot))
 
 unfoldable pub afterNote : Bytes → ℕ → ℕ → Bytes → Bytes → ℕ → ℕ → Bytes → Bytes
 afterNote s slot now key address udp tcp hash =

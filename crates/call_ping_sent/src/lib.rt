@@ -5,17 +5,18 @@ ghost use lib.ListN.{length};
 ghost use Rattle.octets.specs.Octets.{Bytes};
 ghost use Rattle.lists.specs.Lists.{first};
 ghost use Rattle.table_model.specs.Layout.{clockOf};
-ghost use Rattle.bucket.specs.Values.{contents, Bounded};
-ghost use Rattle.bucket_rules.specs.Found.{LooksUp};
+ghost use Rattle.bucket.specs.Steps.{contents, InBounds};
+ghost use Rattle.bucket_rules.specs.Steps.{LooksUp};
 ghost use Rattle.call_history.specs.Model as model;
 ghost use Rattle.call_model.specs.Calls.{answerOn, bytesAfter};
 ghost use Rattle.call_model.specs.Reading.{reading};
-ghost use Rattle.call_touched.specs.Reached.{SoundAt};
-ghost use Rattle.call_ping_sent.specs.Steps.{keptPlace, placedAt, placed, pingSentTests, heldTests, noteNumber, afterNote};
+ghost use Rattle.call_touched.specs.Steps.{SoundAt};
+ghost use Rattle.call_history.specs.Model.{heldRefusals};
+ghost use Rattle.call_ping_sent.specs.Steps.{keptPlace, placedAt, placed, pingSentTests, noteNumber, afterNote};
 use bucket::Bucket;
 use bucket_rules::Lookup;
 use call_touched::Reach;
-use entry::MonotonicMillis;
+use node::MonotonicMillis;
 use table::Touched;
 
 // What the tests before the bucket's own find of a ping that was sent.
@@ -39,10 +40,10 @@ fn ping_number(
 {
     let last = table::clock(table);
     if clock.0 < last.0 {
-        return 2;
+        return numbers::CLOCK_BACK;
     }
     if hash.len() != 32 {
-        return 4;
+        return numbers::WRONG_HASH;
     }
     call_touched::key_number(touched, address)
 }
@@ -51,9 +52,9 @@ fn kept_place(touched: Touched) -> Placed
     ensures { λ r. ⌜ r ≡ keptPlace touched ⌝ }
 {
     match touched {
-        Touched::WrongKey => Placed::NotPlaced(12),
-        Touched::Own => Placed::NotPlaced(12),
-        Touched::NotKept => Placed::NotPlaced(12),
+        Touched::WrongKey => Placed::NotPlaced(numbers::NOT_KEPT),
+        Touched::Own => Placed::NotPlaced(numbers::NOT_KEPT),
+        Touched::NotKept => Placed::NotPlaced(numbers::NOT_KEPT),
         Touched::Slot(slot) => Placed::In(slot),
     }
 }
@@ -82,27 +83,27 @@ fn place(table: &[u8], clock: MonotonicMillis, key: &[u8], address: &[u8], hash:
 {
     let reached = call_touched::reached_by(table, key);
     match reached {
-        Reach::Unsound => Placed::NotPlaced(1),
+        Reach::Unsound => Placed::NotPlaced(numbers::UNSOUND),
         Reach::At(touched) => place_at(table, clock, hash, touched, address),
     }
 }
 
 // Answers 16 to 18, or 0, of a ping that was sent to the node.
 fn ping_sent_number(b: Bucket, l: Lookup, address: &[u8], udp: u16) -> u8
-    requires { ⌜ Bounded b ⌝ }
-    ensures { λ r. ⌜ ((key : Bytes) → LooksUp key (contents b) l → r ≡ first (heldTests (now (address .entry)) udp key (contents b))) ⌝ }
+    requires { ⌜ InBounds b ⌝ }
+    ensures { λ r. ⌜ ((key : Bytes) → LooksUp key (contents b) l → r ≡ first (heldRefusals (now (address .entry)) udp key (contents b))) ⌝ }
 {
     if l.held_elsewhere(address, udp) {
-        return 16;
+        return numbers::HELD_ELSEWHERE;
     }
     if l.ping_out() {
-        return 17;
+        return numbers::PING_OUT;
     }
     let replacements = b.replacements;
     if l.no_room(replacements.len) {
-        return 18;
+        return numbers::LINE_FULL;
     }
-    0
+    numbers::DONE
 }
 
 // A ping that was sent is noted in the bucket in its node's slot: answers 16 to 18, or 0 and the bucket and the clock are written.
@@ -126,9 +127,9 @@ fn note(
     if refused != 0 {
         return refused;
     }
-    let pinged = bucket_rules::ping_sent(b, key, address, udp, tcp, hash, clock);
+    let pinged = bucket_rules::ping_sent(b, l, key, address, udp, tcp, hash, clock);
     call_touched::put(table, slot, pinged, clock);
-    0
+    numbers::DONE
 }
 
 // A ping with this hash went out to a node. The answer number.

@@ -16,7 +16,7 @@ use Rattle.table_model.specs.Layout.{encodeTable, ownOf, clockOf, bucketsOf}
 use Rattle.table_model.specs.Sound.{tableSound}
 use Rattle.table_model.proofs.Table.{store-clock-table}
 use Rattle.table_model.proofs.Sound.{SoundTable, table-header, form-is-sound, own-back, clock-back, buckets-back}
-use Rattle.call_sweep.specs.Sweep.{sweepAnswer, sweepTable}
+use Rattle.call_sweep.specs.Steps.{sweepAnswer, sweepTable}
 
 -- ---- the answer, and what it leaves
 

@@ -14,12 +14,13 @@ use Rattle.bucket_model.proofs.ByteForm.{decode-bucket}
 use Rattle.bucket_model.proofs.Sound.{BucketSound}
 use Rattle.bucket_model.proofs.Kept.{sound-sweep}
 use Rattle.bucket.specs.declared.Bucket.{Bucket}
-use Rattle.bucket.specs.Values.{contents, Shows, Bounded}
+use Rattle.bucket.specs.Steps.{contents, Shows, InBounds}
 use Rattle.bucket.proofs.Laws.{shown, bounded-shown}
 use Rattle.table_model.specs.Sound.{anywhere}
 use Rattle.table_model.proofs.Records.{store-part}
 use Rattle.table_model.proofs.Sound.{SoundBucket, decoded-bucket, encoded-bucket}
-use Rattle.call_sweep.specs.Sweep.{stays, nothingGoes}
+use Rattle.bucket_rules.specs.Steps.{stays}
+use Rattle.call_sweep.specs.Steps.{nothingGoes}
 use Rattle.call_sweep.proofs.Unchanged.{sweep-unchanged}
 
 -- the two tests of `nothing_goes`
@@ -47,7 +48,7 @@ module _ (s : Bytes) (at now : ℕ) (fits : at + 2862 ≤ length s) (h : sound a
       sym (ap (λ b. store s at (encodeBucket b)) same ∙ ap (λ l. store s at l) form ∙ store-part s at 2862 fits)
 
   module _ (b : Bucket) (loaded : Shows b (decodeBucket (part s at 2862))) where
-    pub loaded-bounded : Bounded b
+    pub loaded-bounded : InBounds b
     loaded-bounded =
         bounded-shown b (decodeBucket (part s at 2862)) loaded (sound-held .rules .entries-bound) (sound-held .rules .replacements-bound)
 
@@ -55,7 +56,7 @@ module _ (s : Bytes) (at now : ℕ) (fits : at + 2862 ≤ length s) (h : sound a
       is-swept : Shows r (onSweep now (decodeBucket (part s at 2862)))
       is-swept = rw (shown b (decodeBucket (part s at 2862)) loaded) at swept
 
-      pub swept-bounded : Bounded r
+      pub swept-bounded : InBounds r
       swept-bounded =
           let after : BucketSound anywhere now (onSweep now (decodeBucket (part s at 2862))) =
           sound-sweep anywhere now (decodeBucket (part s at 2862)) (sound-held .rules) in

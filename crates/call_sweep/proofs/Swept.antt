@@ -15,7 +15,7 @@ use Rattle.bucket_model.specs.Rules.{onSweep}
 use Rattle.bucket_model.proofs.Kept.{sound-later, sound-sweep}
 use Rattle.bucket_model.specs.Sound.{sound}
 use Rattle.bucket_model.proofs.Values.{values-sweep, sound-encoded}
-use Rattle.table_model.specs.Layout.{encodeTable, offsetOf, numberOf, bucketBytes}
+use Rattle.table_model.specs.Layout.{encodeTable, offsetOf, numberAt, bucketBytes}
 use Rattle.table_model.proofs.Table.{SizedBuckets, length-table, bucket-table, store-bucket-table}
 use Rattle.table_model.specs.Sound.{anywhere}
 use Rattle.table_model.proofs.Home.{sound-anywhere}
@@ -64,10 +64,10 @@ swept-bucket here clock now m h fits b =
 
 module _ (own : Bytes) (clock now : ℕ) (buckets : List Contents) (t : SoundTable own clock buckets) (h : clock ≤ now) (fits : now < 2 ^ 64) where
   swept-at : (j : ℕ) → j < length buckets
-      → SoundBucket (home own (numberOf (length buckets) j)) now (getD (map (onSweep now) buckets) j noContents)
+      → SoundBucket (home own (numberAt (length buckets) j)) now (getD (map (onSweep now) buckets) j noContents)
   swept-at j k =
       rw (getD-map (onSweep now) buckets j noContents k)
-      (swept-bucket (home own (numberOf (length buckets) j)) clock now (getD buckets j noContents) h fits (t .each j k))
+      (swept-bucket (home own (numberAt (length buckets) j)) clock now (getD buckets j noContents) h fits (t .each j k))
 
   -- "every accepted call leaves a sound table sound"
   pub swept-table : SoundTable own now (map (onSweep now) buckets)
@@ -109,7 +109,7 @@ module _ (own : Bytes) (clock now : ℕ) (buckets : List Contents) (t : SoundTab
 
     pub next-sound : sound anywhere now (bucketBytes s i) ≡ true
     next-sound =
-        let here : Bytes → Bool = home own (numberOf (length buckets) i) in
+        let here : Bytes → Bool = home own (numberAt (length buckets) i) in
         let b : Contents = getD buckets i noContents in
         rw next-bytes
         (sound-anywhere here now (encodeBucket b)
@@ -121,7 +121,7 @@ module _ (own : Bytes) (clock now : ℕ) (buckets : List Contents) (t : SoundTab
         → s′ ≡ encodeTable own clock (changed (onSweep now) (i + 1) buckets)
     swept-turn e′ =
         let b : Contents = getD buckets i noContents in
-        let here : Bytes → Bool = home own (numberOf (length buckets) i) in
+        let here : Bytes → Bool = home own (numberAt (length buckets) i) in
         let read : decodeBucket (bucketBytes s i) ≡ b = ap decodeBucket next-bytes ∙ bucket-back here clock b (t .each i k) in
         let size : length (encodeBucket (onSweep now b)) ≡ 2862 =
         bucket-size here now (onSweep now b) (swept-bucket here clock now b h fits (t .each i k)) in

@@ -20,11 +20,11 @@ select-all q [] h = refl
 select-all q (a ∷ l) h = simp (and-left (q a) (all q l) h) (ap (λ m. a ∷ m) (select-all q l (and-right (q a) (all q l) h)))
 
 -- nobody is promoted where nothing is free, or nobody is proved
-pub data Waits (free : ℕ) (line : List Entry) : Type 0 where
-  nothing-free : free ≡ 0 → Waits free line
-  nobody-proved : All (λ e. isProved (e .proof) ≡ false) line → Waits free line
+pub data NoneMoves (free : ℕ) (line : List Entry) : Type 0 where
+  nothing-free : free ≡ 0 → NoneMoves free line
+  nobody-proved : All (λ e. isProved (e .proof) ≡ false) line → NoneMoves free line
 
-waits-rest : {free : ℕ} {e : Entry} {line : List Entry} → Waits free (e ∷ line) → Waits free line
+waits-rest : {free : ℕ} {e : Entry} {line : List Entry} → NoneMoves free (e ∷ line) → NoneMoves free line
 waits-rest (nothing-free h) = nothing-free h
 waits-rest (nobody-proved p) = nobody-proved (p .1)
 
@@ -32,15 +32,15 @@ no-room : (a : Bool) → (a && false) ≡ false
 no-room true = refl
 no-room false = refl
 
-waits-first : {free : ℕ} {e : Entry} {line : List Entry} → Waits free (e ∷ line) → (isProved (e .proof) && ltb 0 free) ≡ false
+waits-first : {free : ℕ} {e : Entry} {line : List Entry} → NoneMoves free (e ∷ line) → (isProved (e .proof) && ltb 0 free) ≡ false
 waits-first {free} {e} (nothing-free h) = ap (λ b. isProved (e .proof) && b) (le-ltb 0 free (omega arith)) ∙ no-room (isProved (e .proof))
 waits-first {free} (nobody-proved p) = ap (λ b. b && ltb 0 free) (p .0)
 
-none-promoted : (free : ℕ) (line : List Entry) → Waits free line → promoted free line ≡ []
+none-promoted : (free : ℕ) (line : List Entry) → NoneMoves free line → promoted free line ≡ []
 none-promoted free [] w = refl
 none-promoted free (e ∷ line) w = simp (waits-first w) (none-promoted free line (waits-rest w))
 
-all-remain : (free : ℕ) (line : List Entry) → Waits free line → remaining free line ≡ line
+all-remain : (free : ℕ) (line : List Entry) → NoneMoves free line → remaining free line ≡ line
 all-remain free [] w = refl
 all-remain free (e ∷ line) w = simp (waits-first w) (ap (λ m. e ∷ m) (all-remain free line (waits-rest w)))
 
@@ -51,7 +51,7 @@ sweep-unchanged here clock now m s he hr =
     let entries : select (staysEntry now) (m .entries) ≡ m .entries = select-all (staysEntry now) (m .entries) he in
     let line : select (staysReplacement now) (m .replacements) ≡ m .replacements = select-all (staysReplacement now) (m .replacements) hr in
     let free : ℕ = 16 - length (m .entries) in
-    let waits : Waits free (m .replacements) =
+    let waits : NoneMoves free (m .replacements) =
     byTest (ltb (length (m .entries)) 16)
     (λ t. nobody-proved (s .full (ltb-true (length (m .entries)) 16 t)))
     (λ t. nothing-free (omega (arith, ltb-false (length (m .entries)) 16 t))) in

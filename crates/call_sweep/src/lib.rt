@@ -15,9 +15,11 @@ ghost use Rattle.bucket_model.specs.Rules.{onSweep};
 ghost use Rattle.bucket_model.specs.Sound.{sound};
 ghost use Rattle.table_model.specs.Layout.{encodeTable, ownOf, clockOf, bucketsOf};
 ghost use Rattle.table_model.specs.Sound.{anywhere, tableSound};
-ghost use Rattle.call_sweep.specs.Sweep.{stays, nothingGoes, sweepAnswer, sweepTable};
+ghost use Rattle.bucket_rules.specs.Steps.{stays};
+ghost use Rattle.call_sweep.specs.Steps.{nothingGoes, sweepAnswer, sweepTable};
 use bucket::Bucket;
-use entry::MonotonicMillis;
+use entry::Entry;
+use node::MonotonicMillis;
 
 // Nodes that did not answer in time go, then replacements with an expired proof, and proved replacements take free entries. The answer
 // number.
@@ -51,7 +53,7 @@ fn all_stay(bytes: &[u8], at: usize, n: usize, waiting: bool, time: MonotonicMil
     let mut i = n;
     while 0 < i {
         i -= 1;
-        let here = entry_stays(bytes, at + i * 143, waiting, time);
+        let here = entry_stays(bytes, at + i * Entry::SIZE, waiting, time);
         stay = bucket_entry::both(here, stay);
     }
     stay
@@ -66,7 +68,13 @@ fn nothing_goes(bytes: &[u8], at: usize, time: MonotonicMillis) -> bool
     let replacements = bytes[at + 1] as usize;
     bucket_entry::both(
         all_stay(bytes, at + 2, entries, false, time),
-        all_stay(bytes, at + 2290, replacements, true, time),
+        all_stay(
+            bytes,
+            at + Bucket::REPLACEMENTS_AT,
+            replacements,
+            true,
+            time,
+        ),
     )
 }
 
@@ -91,7 +99,7 @@ fn sweep_buckets(bytes: &mut [u8], time: MonotonicMillis)
     let count = table::bucket_count(bytes);
     let mut i = 0;
     while i < count {
-        sweep_bucket(bytes, 512 + i * 2862, time);
+        sweep_bucket(bytes, table::HEADER_SIZE + i * Bucket::SIZE, time);
         i += 1;
     }
 }
@@ -103,13 +111,13 @@ pub fn sweep(table: &mut [u8], time: MonotonicMillis) -> u8
     ensures { λ r. ⌜ now (table .exit) ≡ sweepTable (now (table .entry)) (time .0) ⌝ }
 {
     if !table_sound::sound(table) {
-        return 1;
+        return numbers::UNSOUND;
     }
     let clock = table::clock(table);
     if time.0 < clock.0 {
-        return 2;
+        return numbers::CLOCK_BACK;
     }
     sweep_buckets(table, time);
     table::set_clock(table, time);
-    0
+    numbers::DONE
 }

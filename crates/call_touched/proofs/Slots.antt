@@ -16,14 +16,14 @@ use Rattle.bucket_model.specs.Rules.{isProved}
 use Rattle.bucket_model.specs.Sound.{entrySound, mayWait, isFull, distinct, keepsRules, sound}
 use Rattle.bucket_model.proofs.Sound.{BucketSound}
 use Rattle.bucket_model.proofs.Values.{decoded-sound}
-use Rattle.table_model.specs.Layout.{ownOf, clockOf, countOf, numberOf, offsetOf, bucketBytes, bucketAt}
+use Rattle.table_model.specs.Layout.{ownOf, clockOf, countOf, numberAt, offsetOf, bucketBytes, bucketAt}
 use Rattle.table_model.proofs.Header.{header-sound}
 use Rattle.table_model.proofs.Sound.{counts-at}
 use Rattle.bucket.specs.declared.Bucket.{Bucket}
-use Rattle.bucket.specs.Values.{contents, Shows}
+use Rattle.bucket.specs.Steps.{contents, Shows}
 use Rattle.bucket.proofs.Laws.{shown, bounded-shown}
-use Rattle.bucket_rules.specs.Found.{Ready}
-use Rattle.call_touched.specs.Reached.{SoundAt, withBucket}
+use Rattle.bucket_rules.specs.Steps.{Ready}
+use Rattle.call_touched.specs.Steps.{SoundAt, withBucket}
 
 -- the keys in a sound bucket's bytes are distinct
 module _ (q : Bytes → Bool) (clock : ℕ) (s : Bytes) (h : sound q clock s ≡ true) where
@@ -56,9 +56,9 @@ module _ (s : Bytes) (slot : ℕ) (h : SoundAt s slot) where
   counts = counts-at _ _ s at (omega (arith, fits)) (h .bucket)
 
   module _ (bs : IsBytes s) where
-    pub held-sound : BucketSound (home (ownOf s) (numberOf (countOf s) slot)) (clockOf s) (bucketAt s slot)
+    pub held-sound : BucketSound (home (ownOf s) (numberAt (countOf s) slot)) (clockOf s) (bucketAt s slot)
     held-sound =
-        decoded-sound (home (ownOf s) (numberOf (countOf s) slot)) (clockOf s) (bucketBytes s slot)
+        decoded-sound (home (ownOf s) (numberAt (countOf s) slot)) (clockOf s) (bucketBytes s slot)
         (length-part s at 2862 (omega (arith, fits))) (bytes-part s at 2862 bs) (h .bucket) .0
 
     pub is-ready : (b : Bucket) → Shows b (bucketAt s slot) → Ready b

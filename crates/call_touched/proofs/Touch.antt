@@ -17,10 +17,10 @@ use Rattle.call_model.specs.Reading.{reading}
 use Rattle.call_model.proofs.Form.{slot-below}
 use Rattle.table.specs.declared.Touched.{Touched}
 use Rattle.table.specs.declared.Touched.the-variants.{WrongKey, Own, NotKept, Slot}
-use Rattle.table.specs.Touched.{pick, touchedBy}
+use Rattle.table.specs.Steps.{pick, touchedBy}
 use Rattle.call_touched.specs.declared.Reach.{Reach}
 use Rattle.call_touched.specs.declared.Reach.the-variants.{Unsound, At}
-use Rattle.call_touched.specs.Reached.{touchedSound, Below, reached, SoundAt}
+use Rattle.call_touched.specs.Steps.{touchedSound, Below, reached, SoundAt}
 
 -- by its tests: the key is 64 bytes, its hash is the own one, its bucket is kept; the slot
 abbrev pub leads : Bool → Bool → Bool → ℕ → Touched

@@ -6,12 +6,11 @@ ghost use Prim.Native.Nat.{_+_, _≤_};
 ghost use lib.ListN.{length};
 ghost use Rattle.lists.specs.Lists.{first};
 ghost use Rattle.table_model.specs.Layout.{countOf, offsetOf, bucketAt, headerSound};
-ghost use Rattle.bucket.specs.Values.{contents, Shows, Bounded};
-ghost use Rattle.bucket_rules.specs.Found.{Ready};
-ghost use Rattle.call_history.specs.Model as model;
-ghost use Rattle.call_touched.specs.Reached.{touchedSound, Below, reached, isWrongKey, isOwnKey, keyTests, SoundAt, withBucket};
+ghost use Rattle.bucket.specs.Steps.{contents, Shows, InBounds};
+ghost use Rattle.bucket_rules.specs.Steps.{Ready};
+ghost use Rattle.call_touched.specs.Steps.{touchedSound, Below, reached, isWrongKey, isOwnKey, keyTests, SoundAt, withBucket};
 use bucket::Bucket;
-use entry::MonotonicMillis;
+use node::MonotonicMillis;
 use table::Touched;
 
 // Where a key leads.
@@ -69,29 +68,20 @@ fn is_own_key(touched: Touched) -> bool
     }
 }
 
-fn is_address(address: &[u8]) -> bool
-    ensures { λ r. ⌜ r ≡ model.isAddress (now (address .entry)) ⌝ }
-{
-    if address.len() == 4 {
-        return true;
-    }
-    address.len() == 16
-}
-
 // Answers 5 to 7, or 0.
 pub fn key_number(touched: Touched, address: &[u8]) -> u8
     ensures { λ r. ⌜ r ≡ first (keyTests touched (now (address .entry))) ⌝ }
 {
     if is_wrong_key(touched) {
-        return 5;
+        return numbers::WRONG_KEY;
     }
-    if !is_address(address) {
-        return 6;
+    if !node::is_address_size(address.len()) {
+        return numbers::WRONG_ADDRESS;
     }
     if is_own_key(touched) {
-        return 7;
+        return numbers::OWN_KEY;
     }
-    0
+    numbers::DONE
 }
 
 // The bucket in a slot, where it is sound.
@@ -99,14 +89,14 @@ pub fn bucket_in(table: &[u8], slot: usize) -> Bucket
     requires { ⌜ SoundAt (now table) slot ⌝ }
     ensures { λ r. ⌜ Shows r (bucketAt (now (table .entry)) slot) × Ready r ⌝ }
 {
-    Bucket::load(table, table::HEADER_SIZE + slot * table::BUCKET_SIZE)
+    Bucket::load(table, table::HEADER_SIZE + slot * Bucket::SIZE)
 }
 
 // Writes a bucket into its slot, and the clock; no other byte changes.
 pub fn put(table: &mut [u8], slot: usize, b: Bucket, clock: MonotonicMillis)
-    requires { ⌜ (offsetOf (slot + 1) ≤ length (now table)) × Bounded b ⌝ }
+    requires { ⌜ (offsetOf (slot + 1) ≤ length (now table)) × InBounds b ⌝ }
     ensures { λ _. ⌜ now (table .exit) ≡ withBucket (now (table .entry)) slot (contents b) (clock .0) ⌝ }
 {
-    b.store(table, table::HEADER_SIZE + slot * table::BUCKET_SIZE);
+    b.store(table, table::HEADER_SIZE + slot * Bucket::SIZE);
     table::set_clock(table, clock);
 }

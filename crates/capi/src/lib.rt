@@ -16,13 +16,13 @@ ghost use Rattle.packet_bodies.specs.Writers.{canPing, pingBody, canPong, pongB
 ghost use Rattle.packet_join.specs.Join as joining;
 ghost use Rattle.table.specs.Init.{initAnswer, initTable};
 ghost use Rattle.counters.specs.Counters.{raised, cleared};
-ghost use Rattle.closest_nodes.specs.Closest.{listed, listAfter};
+ghost use Rattle.closest_nodes.specs.Listing.{listed, listAfter};
 ghost use Rattle.capi_codes.specs.Codes.{numberIn, receivedCode, listedCode, writtenCode, seqOf};
 ghost use Rattle.capi_packet.specs.Fields.{readNumber, fieldsAfter, nodeNumbers};
 ghost use Rattle.capi_head.specs.Head.{headNumber, headOn, unlessRefused};
 ghost use Rattle.capi_nodes.specs.Packed.{packedList, canPacked};
 use counters::Counters;
-use entry::Node;
+use node::Node;
 use packet_span::Span;
 
 // ---- the table's calls
@@ -138,7 +138,7 @@ pub extern "C" fn coghammer_head(
     *node_key = held_key;
     *address = held_address;
     *numbers = held_numbers;
-    0
+    numbers::DONE
 }
 
 // ---- fields of a datagram
@@ -157,7 +157,7 @@ pub extern "C" fn coghammer_packet(datagram: &[u8], fields: &mut [u64; 20]) -> u
     }
     let places = read.fields;
     *fields = places;
-    0
+    numbers::DONE
 }
 
 // How many nodes a Neighbors lists, by the start and length of its nodes.
@@ -256,7 +256,7 @@ pub extern "C" fn coghammer_write_neighbors(buf: &mut [u8], nodes: &[u8], expira
     ensures bytes { λ _. ⌜ now (buf .exit) ≡ writtenIn (canPacked (now (nodes .entry))) (neighborsBody (packedList (now (nodes .entry))) expiration) (now (buf .entry)) ⌝ }
 {
     if !capi_nodes::is_packed(nodes) {
-        return capi_codes::code(20, 0);
+        return capi_codes::code(numbers::NOT_WRITABLE, 0);
     }
     capi_codes::written_code(discv4::write_neighbors(buf, capi_nodes::unpacked(nodes), expiration))
 }

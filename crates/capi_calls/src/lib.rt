@@ -5,8 +5,8 @@ ghost use Rattle.call_model.specs.Calls.{answerOn, bytesAfter};
 ghost use Rattle.call_model.specs.Reading.{reading};
 ghost use Rattle.call_datagram.specs.Received.{received};
 ghost use Rattle.capi_codes.specs.Codes.{receivedCode};
-use entry::MonotonicMillis;
-use entry::UnixSeconds;
+use node::MonotonicMillis;
+use node::UnixSeconds;
 
 // A datagram came. The code of its answer.
 pub fn datagram_on(

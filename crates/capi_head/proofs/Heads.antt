@@ -15,11 +15,11 @@ use Rattle.bucket_model.specs.Contents.{entriesAt, decodeBucket}
 use Rattle.table_model.specs.Layout.{offsetOf, bucketAt}
 use Rattle.table_model.proofs.Header.{header-sound}
 use Rattle.table.specs.declared.Touched.{Touched}
-use Rattle.table.specs.Touched.{touchedBy}
+use Rattle.table.specs.Steps.{touchedBy}
 use Rattle.call_history.specs.Model.{isOwn, isKept, slot}
 use Rattle.call_model.specs.Calls.{envOf, bucketFor, unsoundFor}
 use Rattle.call_model.specs.Reading.{reading}
-use Rattle.call_touched.specs.Reached.{SoundAt}
+use Rattle.call_touched.specs.Steps.{SoundAt}
 use Rattle.call_touched.proofs.Touch.{leads, is-touched, sound-at}
 use Rattle.capi_head.specs.declared.Head.{Head}
 use Rattle.capi_head.specs.Head.{headNumber, flatEntry, noHead, firstOf, headBy, headOn, headAt, SoundSlot}

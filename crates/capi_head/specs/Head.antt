@@ -6,16 +6,18 @@ use lib.Dec.{eqb}
 use lib.ListN.{length, replicate}
 use Rattle.octets.specs.Octets.{Bytes}
 use Rattle.lists.specs.Lists.{first}
+use Rattle.node.specs.declared.Node.{Node}
 use Rattle.entry.specs.declared.Entry.{Entry}
 use Rattle.entry.specs.declared.PingState.{PingState}
 use Rattle.entry.specs.declared.PingState.the-variants.{Quiet, Out}
+use Rattle.entry.specs.Nodes.{nodeOf}
 use Rattle.table_model.specs.Layout.{bucketAt}
 use Rattle.table.specs.declared.Touched.{Touched}
 use Rattle.table.specs.declared.Touched.the-variants.{WrongKey, Own, NotKept, Slot}
 use Rattle.call_history.specs.Model.{isOwn, isKept}
 use Rattle.call_model.specs.Calls.{envOf, bucketFor, unsoundFor}
 use Rattle.call_model.specs.Reading.{reading}
-use Rattle.call_touched.specs.Reached.{SoundAt}
+use Rattle.call_touched.specs.Steps.{SoundAt}
 use Rattle.capi_head.specs.declared.Head.{Head}
 
 -- the answer number: 1, 5, 7, 12 as of a call with this key, or 0
@@ -38,15 +40,18 @@ abbrev pub pingTime : PingState → ℕ
 pingTime Quiet = 0
 pingTime (Out t) = t .0
 
--- an entry as numbers: address length, UDP port, TCP port, 1 if a ping is out, its millisecond
-abbrev pub flatEntry : Entry → Head
-flatEntry e =
+-- a node and its ping state as numbers: address length, UDP port, TCP port, 1 if a ping is out, its millisecond
+abbrev pub flatNode : Node → PingState → Head
+flatNode n ping =
     record {
       number = 0;
-      key = e .key;
-      address = e .endpoint .address;
-      numbers = e .endpoint .len ∷ e .endpoint .udp ∷ e .endpoint .tcp ∷ pingFlag (e .ping) ∷ pingTime (e .ping) ∷ [];
+      key = n .key;
+      address = n .endpoint .address;
+      numbers = n .endpoint .len ∷ n .endpoint .udp ∷ n .endpoint .tcp ∷ pingFlag ping ∷ pingTime ping ∷ [];
     }
+
+abbrev pub flatEntry : Entry → Head
+flatEntry e = flatNode (nodeOf e) (e .ping)
 
 -- no entry: zeros
 abbrev pub noHead : ℕ → Head

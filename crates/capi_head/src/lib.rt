@@ -1,9 +1,10 @@
 // The head of a key's bucket: the first entry, as the answer to a waiting pong names it.
 ghost use mathlib.Core.Path.{_≡_};
 ghost use Rattle.table_model.specs.Layout.{bucketAt};
-ghost use Rattle.call_touched.specs.Reached.{SoundAt};
+ghost use Rattle.call_touched.specs.Steps.{SoundAt};
 ghost use Rattle.capi_head.specs.Head as heads;
 ghost use Rattle.capi_head.specs.Head.{headOn, flatEntry, noHead};
+use bucket::Bucket;
 use call_touched::Reach;
 use entry::Entry;
 use entry::PingState;
@@ -75,7 +76,7 @@ fn first_in(table: &[u8], slot: usize) -> Head
     requires { ⌜ SoundAt (now table) slot ⌝ }
     ensures { λ r. ⌜ r ≡ heads.firstOf (bucketAt (now (table .entry)) slot .entries) ⌝ }
 {
-    let at = table::HEADER_SIZE + slot * table::BUCKET_SIZE;
+    let at = table::HEADER_SIZE + slot * Bucket::SIZE;
     if table[at] == 0 {
         return no_head(0);
     }

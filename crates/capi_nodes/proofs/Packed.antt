@@ -13,13 +13,13 @@ use lib.Seq.{take-suc-set, take-all}
 use Rattle.octets.specs.Octets.{Bytes, IsBytes, part, number}
 use Rattle.octets.proofs.Laws.{part-part, length-part, number-less, bytes-part}
 use Rattle.lists.proofs.Laws.{and-left}
-use Rattle.entry.specs.declared.Node.{Node}
+use Rattle.node.specs.declared.Node.{Node}
 use Rattle.entry.specs.Layout.{decodeEndpoint}
 use Rattle.entry.proofs.Laws.{decode-endpoint}
 use Rattle.table_model.specs.Layout.{tabulate}
 use Rattle.table_model.proofs.Records.{length-tabulate}
 use Rattle.packet_model.specs.Items.{neighborsItems, nodeItem}
-use Rattle.packet_bodies.specs.Parts.{body, nodesOf, haveAddresses, writableNodes}
+use Rattle.packet_bodies.specs.Parts.{body, nodesIn, haveAddresses, writableNodes}
 use Rattle.written.specs.Written.{written, writtenIn}
 use Rattle.packet_bodies.specs.declared.NodeList.{NodeList}
 use Rattle.packet_bodies.specs.Writers.{neighborsBody}
@@ -75,7 +75,7 @@ node-fits b n bs =
 
 -- l is what `unpacked` makes of s
 module _ (s : Bytes) (ok : isPacked s ≡ true) (l : NodeList) (n : l .len ≡ length s / 85) (e : take (l .len) (l .nodes) ≡ packedList s .nodes) where
-  same-nodes : nodesOf l ≡ nodesOf (packedList s)
+  same-nodes : nodesIn l ≡ nodesIn (packedList s)
   same-nodes = e ∙ sym (take-all (length s / 85) (packedList s .nodes) (omega (arith, length-tabulate (length s / 85) (packedAt s))))
 
   pub same-body : (x : ℕ) → neighborsBody l x ≡ neighborsBody (packedList s) x
@@ -85,7 +85,7 @@ module _ (s : Bytes) (ok : isPacked s ≡ true) (l : NodeList) (n : l .len ≡ l
   same-test =
       (λ i. leb (n i) 12 && haveAddresses (same-nodes i)) ∙ sym (ap (λ (b : Bool). b && writableNodes (packedList s)) ok)
 
-  pub nodes-fit : IsBytes s → NodesFit (nodesOf l)
+  pub nodes-fit : IsBytes s → NodesFit (nodesIn l)
   nodes-fit bs =
       rw e
       (fits-all (length s / 85) (packedAt s) (λ i h. node-fits (part s (i * 85) 85) (length-part s (i * 85) 85 (omega arith)) (bytes-part s (i * 85) 85 bs)))

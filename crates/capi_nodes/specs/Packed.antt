@@ -4,7 +4,7 @@ use mathlib.Core.Bool.{Bool, _&&_}
 use lib.Dec.{eqb, leb}
 use lib.ListN.{length}
 use Rattle.octets.specs.Octets.{Bytes, part}
-use Rattle.entry.specs.declared.Node.{Node}
+use Rattle.node.specs.declared.Node.{Node}
 use Rattle.entry.specs.Layout.{decodeEndpoint}
 use Rattle.table_model.specs.Layout.{tabulate}
 use Rattle.packet_bodies.specs.Parts.{writableNodes}

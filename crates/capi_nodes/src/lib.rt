@@ -4,8 +4,8 @@ ghost use mathlib.Core.Bool.{true};
 ghost use Prim.Native.Nat.{_+_, _*_, _/_, _≤_, _<_};
 ghost use lib.ListN.{length, take};
 ghost use Rattle.capi_nodes.specs.Packed.{packedAt, packedList, isPacked};
-use entry::Endpoint;
-use entry::Node;
+use node::Endpoint;
+use node::Node;
 use packet_bodies::NodeList;
 
 // Node `i` of packed nodes.
@@ -36,7 +36,7 @@ pub fn unpacked(nodes: &[u8]) -> NodeList
     ensures { λ r. ⌜ (r .len ≡ length (now (nodes .entry)) / 85) × (take (r .len) (r .nodes) ≡ packedList (now (nodes .entry)) .nodes) ⌝ }
 {
     let len = nodes.len() / 85;
-    let none = entry::no_node();
+    let none = node::no_node();
     let mut list = [none; 16];
     let mut i = 0;
     while i < len {

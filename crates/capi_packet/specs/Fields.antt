@@ -3,11 +3,13 @@
 -- does not have is 0.
 use Prim.Native.Nat.{ℕ}
 use mathlib.Core.List.{List, [], _∷_}
-use Rattle.entry.specs.declared.Node.{Node}
+use Rattle.node.specs.declared.Node.{Node}
 use Rattle.packet_model.specs.declared.EnrSeq.{EnrSeq}
 use Rattle.packet_model.specs.declared.EnrSeq.the-variants.{Absent, Present}
 use Rattle.packet.specs.declared.Packet.{Packet}
 use Rattle.packet.specs.declared.Packet.the-variants as packet
+use Rattle.packet.specs.declared.Parsed.{Parsed}
+use Rattle.packet.specs.declared.Parsed.the-variants as parsed
 use Rattle.packet.specs.declared.Ping.{Ping}
 use Rattle.packet.specs.declared.Pong.{Pong}
 use Rattle.packet.specs.declared.FindNode.{FindNode}
@@ -56,25 +58,23 @@ flatEnrResponse p =
     6 ∷ 0 ∷ 0 ∷ 0 ∷ 0 ∷ 0 ∷ 0 ∷ 0 ∷ 0 ∷ 0 ∷ 0 ∷ 0
     ∷ p .«request_hash» .start ∷ p .«request_hash» .len ∷ 0 ∷ 0 ∷ 0 ∷ 0 ∷ p .«record» .start ∷ p .«record» .len ∷ []
 
+abbrev pub flatPacket : Packet → List ℕ
+flatPacket (packet.Ping p) = flatPing p
+flatPacket (packet.Pong p) = flatPong p
+flatPacket (packet.FindNode p) = flatFindNode p
+flatPacket (packet.Neighbors p) = flatNeighbors p
+flatPacket (packet.EnrRequest p) = flatEnrRequest p
+flatPacket (packet.EnrResponse p) = flatEnrResponse p
+
 -- the answer number of reading: 0, or 8, 9 or 10
-abbrev pub readNumber : Packet → ℕ
-readNumber (packet.Ping p) = 0
-readNumber (packet.Pong p) = 0
-readNumber (packet.FindNode p) = 0
-readNumber (packet.Neighbors p) = 0
-readNumber (packet.EnrRequest p) = 0
-readNumber (packet.EnrResponse p) = 0
-readNumber (packet.Refused n) = n
+abbrev pub readNumber : Parsed → ℕ
+readNumber (parsed.Packet p) = 0
+readNumber (parsed.Refused n) = n
 
 -- the lent places after reading: a refused packet leaves them
-abbrev pub fieldsAfter : Packet → List ℕ → List ℕ
-fieldsAfter (packet.Ping p) old = flatPing p
-fieldsAfter (packet.Pong p) old = flatPong p
-fieldsAfter (packet.FindNode p) old = flatFindNode p
-fieldsAfter (packet.Neighbors p) old = flatNeighbors p
-fieldsAfter (packet.EnrRequest p) old = flatEnrRequest p
-fieldsAfter (packet.EnrResponse p) old = flatEnrResponse p
-fieldsAfter (packet.Refused n) old = old
+abbrev pub fieldsAfter : Parsed → List ℕ → List ℕ
+fieldsAfter (parsed.Packet p) old = flatPacket p
+fieldsAfter (parsed.Refused n) old = old
 
 -- a node's numbers: address length, UDP port, TCP port
 abbrev pub nodeNumbers : Node → List ℕ

@@ -3,12 +3,13 @@ ghost use mathlib.Core.Path.{_≡_};
 ghost use Rattle.packet_span.specs.Parts.{bytesOf};
 ghost use Rattle.packet_fields.specs.Spans.{nodeAt};
 ghost use Rattle.packet_datagram.specs.Datagram.{packetIn};
-ghost use Rattle.capi_packet.specs.Fields.{seqPresent, seqValue, flatPing, flatPong, flatFindNode, flatNeighbors, flatEnrRequest, flatEnrResponse, readNumber, fieldsAfter, flatNode};
+ghost use Rattle.capi_packet.specs.Fields.{seqPresent, seqValue, flatPing, flatPong, flatFindNode, flatNeighbors, flatEnrRequest, flatEnrResponse, flatPacket, readNumber, fieldsAfter, flatNode};
 use packet::EnrRequest;
 use packet::EnrResponse;
 use packet::FindNode;
 use packet::Neighbors;
 use packet::Packet;
+use packet::Parsed;
 use packet::Ping;
 use packet::Pong;
 use packet_model::EnrSeq;
@@ -135,24 +136,8 @@ fn flat_enr_response(p: EnrResponse) -> [u64; 20]
     fields
 }
 
-// 0, or a refused packet's number.
-fn number_of(packet: Packet) -> u8
-    ensures { λ r. ⌜ r ≡ readNumber packet ⌝ }
-{
-    match packet {
-        Packet::Ping(_) => 0,
-        Packet::Pong(_) => 0,
-        Packet::FindNode(_) => 0,
-        Packet::Neighbors(_) => 0,
-        Packet::EnrRequest(_) => 0,
-        Packet::EnrResponse(_) => 0,
-        Packet::Refused(n) => n,
-    }
-}
-
-// The fields of a packet, `old` of a refused one.
-fn fields_of(packet: Packet, old: [u64; 20]) -> [u64; 20]
-    ensures { λ r. ⌜ r ≡ fieldsAfter packet old ⌝ }
+fn fields_of(packet: Packet) -> [u64; 20]
+    ensures { λ r. ⌜ r ≡ flatPacket packet ⌝ }
 {
     match packet {
         Packet::Ping(p) => flat_ping(p),
@@ -161,7 +146,6 @@ fn fields_of(packet: Packet, old: [u64; 20]) -> [u64; 20]
         Packet::Neighbors(p) => flat_neighbors(p),
         Packet::EnrRequest(p) => flat_enr_request(p),
         Packet::EnrResponse(p) => flat_enr_response(p),
-        Packet::Refused(_) => old,
     }
 }
 
@@ -176,10 +160,16 @@ pub struct Fields {
 pub fn read_fields(datagram: &[u8], old: [u64; 20]) -> Fields
     ensures { λ r. ⌜ (r .number ≡ readNumber (packetIn (now (datagram .entry)))) × (r .fields ≡ fieldsAfter (packetIn (now (datagram .entry))) old) ⌝ }
 {
-    let packet = packet_datagram::packet_in(datagram);
-    let number = number_of(packet);
-    let fields = fields_of(packet, old);
-    Fields { number, fields }
+    match packet_datagram::packet_in(datagram) {
+        Parsed::Packet(packet) => {
+            let fields = fields_of(packet);
+            Fields { number: 0, fields }
+        }
+        Parsed::Refused(number) => Fields {
+            number,
+            fields: old,
+        },
+    }
 }
 
 // A node: its key, its address, and as numbers the address length, the UDP port and the TCP port.

@@ -2,11 +2,11 @@
 ghost use mathlib.Core.Path.{_≡_};
 ghost use Prim.Native.Nat.{_≤_};
 ghost use lib.ListN.{length};
-ghost use Rattle.closest_nodes.specs.Closest.{listed, listAfter, withChosen};
-ghost use Rattle.closest.specs.ByValue.{found};
+ghost use Rattle.closest_nodes.specs.Listing.{listed, listAfter, withChosen};
+ghost use Rattle.closest.specs.Steps.{found};
 use closest_choice::Choice;
 use closest_nodes::Listed;
-use entry::Node;
+use node::Node;
 
 // Writes the nodes that were chosen to the front of the list, and leaves the rest of it.
 fn store_nodes(list: &mut [Node], table: &[u8], choice: Choice)
@@ -31,6 +31,22 @@ pub fn closest(list: &mut [Node], table: &[u8], target: &[u8]) -> Listed
     closest_nodes::number_and_count(choice)
 }
 
+// The list with the nodes that were chosen at its front.
+fn with_nodes(list: [Node; 16], table: &[u8], choice: Choice) -> [Node; 16]
+    requires { ⌜ choice .nearest .count ≤ 16 ⌝ }
+    ensures { λ r. ⌜ r ≡ withChosen (now (table .entry)) choice list ⌝ }
+{
+    let count = choice.nearest.count;
+    let mut nodes = list;
+    let mut i = 0;
+    while i < count {
+        let node = closest_nodes::chosen_node(table, choice, i);
+        nodes[i] = node;
+        i += 1;
+    }
+    nodes
+}
+
 // What a closest call answers, and the list after it.
 pub struct Found {
     pub number: u8,
@@ -42,8 +58,9 @@ pub struct Found {
 pub fn closest_with(list: [Node; 16], table: &[u8], target: &[u8]) -> Found
     ensures { λ r. ⌜ r ≡ found (now (table .entry)) (now (target .entry)) list ⌝ }
 {
-    let mut nodes = list;
-    let answer = closest(&mut nodes, table, target);
+    let choice = closest_choice::closest_on(table, target, 16);
+    let answer = closest_nodes::number_and_count(choice);
+    let nodes = with_nodes(list, table, choice);
     Found {
         number: answer.number,
         count: answer.count,

@@ -11,10 +11,11 @@ use Rattle.octets.specs.Octets.{Bytes, part}
 use Rattle.octets.proofs.Laws.{getD-part}
 use Rattle.lists.proofs.Laws.{byTest}
 use Rattle.keccak.specs.Sponge.{keccak256}
-use Rattle.entry.specs.declared.Node.{Node}
+use Rattle.node.specs.declared.Node.{Node}
 use Rattle.entry.specs.declared.Entry.{Entry}
 use Rattle.entry.specs.Layout.{decodeEntry, noEntry}
-use Rattle.entry.specs.Nodes.{noNode, nodeOf}
+use Rattle.node.specs.Nodes.{noNode}
+use Rattle.entry.specs.Nodes.{nodeOf}
 use Rattle.bucket_model.specs.Contents.{entriesAt, decodeBucket}
 use Rattle.bucket_model.proofs.ByteForm.{entriesAt-part, entry-at}
 use Rattle.table_model.specs.Layout.{offsetOf, bucketAt, bucketsOf}
@@ -27,7 +28,7 @@ use Rattle.closest_nearest.specs.Nearest.{holding}
 use Rattle.closest_table.specs.declared.Chosen.{Chosen}
 use Rattle.closest_table.specs.Closest.{closestIn}
 use Rattle.closest_table.specs.Closest as nearest
-use Rattle.closest_choice.specs.Closest.{choiceBy, chosen, isThere, nodeIn}
+use Rattle.closest_choice.specs.Choice.{choiceBy, chosen, isThere, nodeIn}
 use Rattle.closest_choice.specs.declared.Choice.{Choice}
 
 -- ---- the choice, by what the chooser found

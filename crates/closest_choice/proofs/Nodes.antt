@@ -12,13 +12,13 @@ use Rattle.lists.specs.Lists.{All}
 use Rattle.lists.proofs.Laws.{All-imp, and-left, and-right}
 use Rattle.keccak.specs.Sponge.{keccak256}
 use Rattle.distance.specs.Distance.{distance, home}
-use Rattle.entry.specs.declared.Node.{Node}
+use Rattle.node.specs.declared.Node.{Node}
 use Rattle.entry.specs.declared.Entry.{Entry}
 use Rattle.entry.specs.Layout.{noEntry}
 use Rattle.entry.specs.Nodes.{nodeOf}
 use Rattle.bucket_model.specs.Contents.{Contents, noContents, decodeBucket}
 use Rattle.bucket_model.proofs.ByteForm.{length-entriesAt}
-use Rattle.table_model.specs.Layout.{offsetOf, numberOf, ownOf, clockOf, countOf, bucketAt, bucketsOf, headerSound}
+use Rattle.table_model.specs.Layout.{offsetOf, numberAt, ownOf, clockOf, countOf, bucketAt, bucketsOf, headerSound}
 use Rattle.table_model.specs.Sound.{bucketSound, bucketsSound, tableSound}
 use Rattle.table_model.proofs.Header.{HeaderSound, header-sound}
 use Rattle.table_model.proofs.Table.{count-read, bucket-read}
@@ -27,7 +27,7 @@ use Rattle.closest_nearest.specs.declared.Near.{Near}
 use Rattle.closest_nearest.specs.Sort.{sortBy}
 use Rattle.closest_table.specs.Closest as nearest
 use Rattle.closest_table.proofs.Nearest.{entryOf, Names, closest-name, closest-entries}
-use Rattle.closest_choice.specs.Closest.{isThere, nodeIn}
+use Rattle.closest_choice.specs.Choice.{isThere, nodeIn}
 
 map-through : {A B C : Type 0} (f : A → C) (g : B → C) (h : A → B) (l : List A) → All (λ a. f a ≡ g (h a)) l → map f l ≡ map g (map h l)
 map-through f g h [] p = refl
@@ -53,7 +53,7 @@ module _ (s : Bytes) (sound : tableSound s ≡ true) where
     fits = omega (arith, within, header .size)
 
     few : getD s at 0 ≤ 16
-    few = counts-at (home (ownOf s) (numberOf (countOf s) (n .slot))) (clockOf s) s at fits (each-sound (n .slot) within) .0
+    few = counts-at (home (ownOf s) (numberAt (countOf s) (n .slot))) (clockOf s) s at fits (each-sound (n .slot) within) .0
 
     bucket : getD (bucketsOf s) (n .slot) noContents ≡ bucketAt s (n .slot)
     bucket = bucket-read s (n .slot) within

@@ -2,9 +2,11 @@
 ghost use mathlib.Core.Path.{_≡_};
 ghost use mathlib.Core.List.{[]};
 ghost use Rattle.closest_nearest.specs.Nearest.{holding};
-ghost use Rattle.closest_choice.specs.Closest.{chosen, nodeIn};
+ghost use Rattle.closest_choice.specs.Choice.{chosen, nodeIn};
+use bucket::Bucket;
 use closest_nearest::Nearest;
-use entry::Node;
+use entry::Entry;
+use node::Node;
 
 // The entries nearest to a target, nearest first, or the answer number and none of them.
 pub struct Choice {
@@ -43,18 +45,18 @@ pub fn node_in(table: &[u8], slot: usize, index: usize) -> Node
     ensures { λ r. ⌜ r ≡ nodeIn (now (table .entry)) slot index ⌝ }
 {
     if 256 <= slot {
-        return entry::no_node();
+        return node::no_node();
     }
-    let at = table::HEADER_SIZE + slot * table::BUCKET_SIZE;
-    if table.len() < at + table::BUCKET_SIZE {
-        return entry::no_node();
+    let at = table::HEADER_SIZE + slot * Bucket::SIZE;
+    if table.len() < at + Bucket::SIZE {
+        return node::no_node();
     }
     let count = table[at] as usize;
-    if 16 < count {
-        return entry::no_node();
+    if Bucket::ENTRIES < count {
+        return node::no_node();
     }
     if count <= index {
-        return entry::no_node();
+        return node::no_node();
     }
-    entry::node_of(entry::load_entry(table, at + 2 + index * 143))
+    entry::node_of(entry::load_entry(table, at + 2 + index * Entry::SIZE))
 }

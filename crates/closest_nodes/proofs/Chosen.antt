@@ -4,13 +4,13 @@ use mathlib.Core.Bool.{true, cond}
 use mathlib.Core.List.{List, [], _++_, map}
 use Prim.Native.Nat.{ℕ, _≤_, min}
 use native.Mathlib.Omega.{arith}
-use borrow.Author.Tests.{eqb-true, ltb-false, not-false}
+use borrow.Author.Tests.{eqb-true, ne-eqb, ltb-false, not-false}
 use lib.Dec.{eqb}
 use lib.ListN.{length, take, drop, length-take, length-map}
 use Rattle.octets.specs.Octets.{Bytes}
 use Rattle.lists.proofs.Laws.{byTest, passed}
 use Rattle.keccak.specs.Sponge.{keccak256}
-use Rattle.entry.specs.declared.Node.{Node}
+use Rattle.node.specs.declared.Node.{Node}
 use Rattle.table_model.specs.Layout.{bucketsOf}
 use Rattle.table_model.specs.Sound.{tableSound}
 use Rattle.closest_nearest.specs.declared.Near.{Near}
@@ -23,12 +23,13 @@ use Rattle.closest_table.specs.Closest as nearest
 use Rattle.call_history.specs.Model.{closest}
 use Rattle.call_model.specs.Reading.{reading}
 use Rattle.call_model.specs.Calls.{refusalsOn, answerOn}
+use Rattle.call_model.proofs.AnyBytes.{on-any-bytes}
 use Rattle.closest_choice.specs.declared.Choice.{Choice}
 use Rattle.entry.specs.Nodes.{nodeOf}
-use Rattle.closest_choice.specs.Closest.{chosen}
+use Rattle.closest_choice.specs.Choice.{chosen}
 use Rattle.closest_choice.proofs.Nodes.{closest-nodes}
 use Rattle.closest_nodes.specs.declared.Listed.{Listed}
-use Rattle.closest_nodes.specs.Closest.{entriesOf, distanceTo, closestNodes, closestNumber, nodesFor, listed, withFront, numberAndCount, nodeAt, withChosen}
+use Rattle.closest_nodes.specs.Listing.{entriesOf, distanceTo, closestNodes, closestNumber, nodesFor, listed, withFront, ClosestKept, numberAndCount, nodeAt, withChosen}
 
 -- "the min(16, seated) seated nodes"
 pub count-of-closest : (s target : Bytes) → length (closestNodes s target) ≡ min 16 (length (entriesOf s))
@@ -89,3 +90,11 @@ module _ (s target : Bytes) (room : ℕ) where
         ap (λ (l : List Near). map (nodeAt s) l ++ drop (choice .nearest .count) list) held-is
         ∙ ap (λ (l : List Node). l ++ drop (choice .nearest .count) list) their-nodes
         ∙ ap (λ (n : ℕ). nodesFor s target room ++ drop n list) (count-is ∙ how-many)
+
+pub closest-kept : ClosestKept
+unfolding nodesFor
+closest-kept =
+    record {
+      number-listed = λ s target room. on-any-bytes reading .number-listed s (closest target room);
+      refused-unchanged = λ s target list h. rw (ne-eqb (closestNumber s target (length list)) 0 h) refl;
+    }

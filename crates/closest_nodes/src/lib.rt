@@ -1,9 +1,9 @@
 // The nodes that a closest call lists: each of those chosen, and the answer.
 ghost use mathlib.Core.Path.{_≡_};
 ghost use Prim.Native.Nat.{_<_};
-ghost use Rattle.closest_nodes.specs.Closest.{numberAndCount, chosenNode};
+ghost use Rattle.closest_nodes.specs.Listing.{numberAndCount, chosenNode};
 use closest_choice::Choice;
-use entry::Node;
+use node::Node;
 
 // The answer number of a closest call, and how many nodes the list received: none where the call is refused.
 pub struct Listed {

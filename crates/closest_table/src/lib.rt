@@ -11,9 +11,11 @@ ghost use Rattle.table_model.specs.Layout.{ownOf, clockOf, countOf, bucketBytes
 ghost use Rattle.closest_nearest.specs.Sort.{insertAll};
 ghost use Rattle.closest_nearest.specs.Nearest.{farness, holding, held, Ordered};
 ghost use Rattle.closest_table.specs.Closest.{inHome, candidatesOf, nothing, closestIn};
+use bucket::Bucket;
 use closest_nearest::Near;
 use closest_nearest::Nearest;
-use entry::MonotonicMillis;
+use entry::Entry;
+use node::MonotonicMillis;
 
 // The nearest entries, or that the table isn't sound.
 pub struct Chosen {
@@ -30,7 +32,7 @@ fn all_home(bytes: &[u8], at: usize, n: usize, own: [u8; 32], number: usize) -> 
     let mut i = n;
     while 0 < i {
         i -= 1;
-        let from = at + i * 143;
+        let from = at + i * Entry::SIZE;
         let here = distance::in_bucket(&own, number, &bytes[from..from + 64]);
         home = bucket_entry::both(here, home);
     }
@@ -63,7 +65,7 @@ fn gather(
     let mut i = n;
     while 0 < i {
         i -= 1;
-        let from = at + i * 143;
+        let from = at + i * Entry::SIZE;
         let hash = keccak::keccak256(&bytes[from..from + 64]);
         let here = distance::falls_in(&own, number, &hash);
         home = bucket_entry::both(here, home);
@@ -97,7 +99,7 @@ fn take_bucket(
     ensures { λ r. ⌜ r .sound ≡ sound (home own number) (clock .0) (bucketBytes (now (bytes .entry)) slot) ⌝ }
     ensures { λ r. ⌜ (r .sound ≡ true → r .nearest ≡ holding (take 16 (insertAll (farness target) (candidatesOf slot 0 (bucketAt (now (bytes .entry)) slot .entries)) (held nearest)))) ⌝ }
 {
-    let at = 512 + slot * 2862;
+    let at = table::HEADER_SIZE + slot * Bucket::SIZE;
     if !bucket_sound::settled(bytes, at, clock) {
         return Chosen {
             sound: false,
@@ -106,7 +108,7 @@ fn take_bucket(
     }
     let n = bytes[at] as usize;
     let m = bytes[at + 1] as usize;
-    let line = all_home(bytes, at + 2290, m, own, number);
+    let line = all_home(bytes, at + Bucket::REPLACEMENTS_AT, m, own, number);
     let gathered = gather(bytes, at + 2, n, own, number, target, slot, nearest);
     let best = gathered.nearest;
     let sound = bucket_entry::both(gathered.home, line);

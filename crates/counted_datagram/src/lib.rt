@@ -1,5 +1,5 @@
 // The datagram call of the public library: it works on the lent table, counts its answer number in the lent counters, and answers.
-// tools/walks.sh prints its proof and that of its by-value form.
+// tools/walks.sh prints its proof.
 ghost use mathlib.Core.Path.{_≡_};
 ghost use Rattle.call_history.specs.Model as model;
 ghost use Rattle.call_model.specs.Calls.{bytesAfter};
@@ -9,8 +9,8 @@ ghost use Rattle.call_datagram.specs.Received.{received};
 ghost use Rattle.counters.specs.Counters.{raised};
 use call_answer::Received;
 use counters::Counters;
-use entry::MonotonicMillis;
-use entry::UnixSeconds;
+use node::MonotonicMillis;
+use node::UnixSeconds;
 
 // A datagram came from the sender's address and UDP port, signed with this key; the key is empty where the signature recovers none.
 pub fn datagram(
@@ -54,17 +54,8 @@ pub fn datagram_with(
     ensures { λ r. ⌜ now (table .exit) ≡ bytesAfter reading (now (table .entry)) (model.datagram (clock .0) (unix .0) (now (address .entry)) port (now (signer .entry)) (now (datagram .entry))) ⌝ }
     ensures { λ r. ⌜ r .counters ≡ raised counters (numberOf (r .received)) ⌝ }
 {
-    let mut counted = counters;
-    let received = self::datagram(
-        &mut counted,
-        table,
-        clock,
-        unix,
-        address,
-        port,
-        signer,
-        datagram,
-    );
+    let received = call_datagram::datagram_on(table, clock, unix, address, port, signer, datagram);
+    let counted = counters::raise(counters, call_answer::number(received));
     Counted {
         received,
         counters: counted,

@@ -1,5 +1,5 @@
 // The ping-sent call of the public library: it works on the lent table, counts its answer number in the lent counters, and answers.
-// tools/walks.sh prints its proof and that of its by-value form.
+// tools/walks.sh prints its proof.
 ghost use mathlib.Core.Path.{_≡_};
 ghost use Rattle.call_history.specs.Model as model;
 ghost use Rattle.call_model.specs.Calls.{answerOn, bytesAfter};
@@ -7,7 +7,7 @@ ghost use Rattle.call_model.specs.Reading.{reading};
 ghost use Rattle.counters.specs.Counters.{raised};
 use counters::CountedNumber;
 use counters::Counters;
-use entry::MonotonicMillis;
+use node::MonotonicMillis;
 
 // A ping with this hash went out to a node. The answer number.
 pub fn ping_sent(
@@ -44,8 +44,8 @@ pub fn ping_sent_with(
     ensures { λ r. ⌜ now (table .exit) ≡ bytesAfter reading (now (table .entry)) (model.pingSent (clock .0) (now (key .entry)) (now (address .entry)) udp tcp (now (hash .entry))) ⌝ }
     ensures { λ r. ⌜ r .counters ≡ raised counters (r .number) ⌝ }
 {
-    let mut counted = counters;
-    let number = ping_sent(&mut counted, table, clock, key, address, udp, tcp, hash);
+    let number = call_ping_sent::ping_sent_on(table, clock, key, address, udp, tcp, hash);
+    let counted = counters::raise(counters, number);
     CountedNumber {
         number,
         counters: counted,

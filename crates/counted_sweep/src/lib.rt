@@ -1,5 +1,5 @@
 // The sweep call of the public library: it works on the lent table, counts its answer number in the lent counters, and answers.
-// tools/walks.sh prints its proof and that of its by-value form.
+// tools/walks.sh prints its proof.
 ghost use mathlib.Core.Path.{_≡_};
 ghost use Rattle.call_history.specs.Model as model;
 ghost use Rattle.call_model.specs.Calls.{answerOn, bytesAfter};
@@ -7,7 +7,7 @@ ghost use Rattle.call_model.specs.Reading.{reading};
 ghost use Rattle.counters.specs.Counters.{raised};
 use counters::CountedNumber;
 use counters::Counters;
-use entry::MonotonicMillis;
+use node::MonotonicMillis;
 
 // Nodes that did not answer in time go, then replacements with an expired proof, and proved replacements take free entries. The answer
 // number.
@@ -27,8 +27,8 @@ pub fn sweep_with(counters: Counters, table: &mut [u8], clock: MonotonicMillis) 
     ensures { λ r. ⌜ now (table .exit) ≡ bytesAfter reading (now (table .entry)) (model.sweep (clock .0)) ⌝ }
     ensures { λ r. ⌜ r .counters ≡ raised counters (r .number) ⌝ }
 {
-    let mut counted = counters;
-    let number = sweep(&mut counted, table, clock);
+    let number = call_sweep::sweep_on(table, clock);
+    let counted = counters::raise(counters, number);
     CountedNumber {
         number,
         counters: counted,

@@ -37,7 +37,7 @@ pub use written::written_number;
 pub use written::written_size;
 
 // ---- packets read
-// An accepted datagram's packet has numbers, and spans of the datagram: `field_part` gives the bytes of an address, a key, a target or a
+// An accepted datagram's packet has numbers, and spans of the datagram: `field_part` gives the bytes of an address, a target or a
 // hash, `node_count` and `node_at` the nodes of a Neighbors.
 pub use packet::EnrRequest;
 pub use packet::EnrResponse;
@@ -57,8 +57,8 @@ pub use packet_span::Span;
 pub use packet_span::bytes_of as field_part;
 
 // ---- clocks and nodes
-pub use entry::Endpoint;
-pub use entry::MonotonicMillis;
-pub use entry::Node;
 pub use entry::PingState;
-pub use entry::UnixSeconds;
+pub use node::Endpoint;
+pub use node::MonotonicMillis;
+pub use node::Node;
+pub use node::UnixSeconds;

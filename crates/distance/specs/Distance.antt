@@ -19,6 +19,18 @@ inBucket i d = leb (2 ^ i) d && ltb d (2 ^ (i + 1))
 unfoldable pub bitLength : ℕ → ℕ
 bitLength d = 256 - leadingZeros 256 d
 
+-- the number of the bucket that a distance falls in, where it isn't 0
+abbrev pub numberOfDistance : ℕ → ℕ
+numberOfDistance d = bitLength d - 1
+
+-- "A table of B buckets keeps numbers 256−B to 255"
+abbrev pub keepsNumber : ℕ → ℕ → Bool
+keepsNumber count number = leb (256 - count) number
+
+-- where a kept number's bucket stands in such a table, counted from 0
+abbrev pub slotOfNumber : ℕ → ℕ → ℕ
+slotOfNumber count number = number - (256 - count)
+
 -- the key is in its own bucket: the one of that number in the table of the node with the hash `own`
 unfoldable pub home : Bytes → ℕ → Bytes → Bool
 home own i key = inBucket i (distance own (keccak256 key))

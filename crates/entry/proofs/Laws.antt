@@ -10,7 +10,7 @@ use lib.ListN.{length, getD, set, length-append}
 use Rattle.octets.specs.Octets.{part, store, number, bigEndian}
 use Rattle.octets.proofs.Laws.{store-append, length-bigEndian, number-bigEndian, part-part, part-middle, getD-part}
 use Rattle.entry.specs.declared.Entry.{Entry}
-use Rattle.entry.specs.declared.Endpoint.{Endpoint}
+use Rattle.node.specs.declared.Endpoint.{Endpoint}
 use Rattle.entry.specs.declared.Stamp.{Stamp}
 use Rattle.entry.specs.declared.EndpointProof.{EndpointProof}
 use Rattle.entry.specs.declared.EndpointProof.the-variants.{Unproved, At}

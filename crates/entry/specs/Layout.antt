@@ -6,7 +6,7 @@ use lib.Dec.{eqb}
 use lib.ListN.{getD}
 use Rattle.octets.specs.Octets.{part, number, bigEndian}
 use Rattle.entry.specs.declared.Entry.{Entry}
-use Rattle.entry.specs.declared.Endpoint.{Endpoint}
+use Rattle.node.specs.declared.Endpoint.{Endpoint}
 use Rattle.entry.specs.declared.Stamp.{Stamp}
 use Rattle.entry.specs.declared.EndpointProof.{EndpointProof}
 use Rattle.entry.specs.declared.EndpointProof.the-variants.{Unproved, At}

@@ -1,17 +1,14 @@
-// The two clocks, nodes and their endpoints, and a table entry by value with its byte form of 143 bytes:
+// A table entry by value, with its byte form of 143 bytes:
 // key 64, address length 1, address 16, UDP port 2, TCP port 2, last seen 8, proof 9, ping 9, ping hash 32.
 ghost use mathlib.Core.Path.{_≡_};
 ghost use Prim.Native.Nat.{_+_, _≤_};
 ghost use lib.ListN.{length};
 ghost use Rattle.octets.specs.Octets.{part, store, number};
-ghost use Rattle.entry.specs.Nodes.{noNode, nodeOf};
+ghost use Rattle.entry.specs.Nodes.{nodeOf};
 ghost use Rattle.entry.specs.Layout.{encodeEntry, decodeEntry, encodeEndpoint, decodeEndpoint, encodeStamp, decodeStamp, proofStamp, pingStamp, proofOf, pingOf};
-
-// Document 01's box milliseconds: a clock that never goes back. Pings and proofs are timed by it.
-pub struct MonotonicMillis(pub u64);
-
-// Document 01's packet Unix seconds: a clock that may jump either way. Only expiration reads it.
-pub struct UnixSeconds(pub u64);
+use node::Endpoint;
+use node::MonotonicMillis;
+use node::Node;
 
 // Document 01's ping state, quiet or out since a stated millisecond.
 pub enum PingState {
@@ -29,22 +26,6 @@ pub enum EndpointProof {
 pub struct Stamp {
     pub flag: u8,
     pub time: u64,
-}
-
-// The first `len` bytes of `address` are the IP address.
-#[repr(C)]
-pub struct Endpoint {
-    pub len: u8,
-    pub address: [u8; 16],
-    pub udp: u16,
-    pub tcp: u16,
-}
-
-// A node record, as lists of nodes have it.
-#[repr(C)]
-pub struct Node {
-    pub key: [u8; 64],
-    pub endpoint: Endpoint,
 }
 
 // Document 01's place: what the table holds of one node. `hash` is the hash of the last ping sent to it.
@@ -76,22 +57,6 @@ impl Entry {
             ping: PingState::Quiet,
             hash: [0; 32],
         }
-    }
-}
-
-// A node of zeros.
-pub fn no_node() -> Node
-    ensures { λ r. ⌜ r ≡ noNode ⌝ }
-{
-    let endpoint = Endpoint {
-        len: 0,
-        address: [0; 16],
-        udp: 0,
-        tcp: 0,
-    };
-    Node {
-        key: [0; 64],
-        endpoint,
     }
 }
 

@@ -5,25 +5,19 @@ ghost use lib.ListN.{length};
 ghost use Rattle.keccak_pad.specs.Padding.{rate};
 ghost use Rattle.keccak_blocks.specs.Blocks.{laneAt, xorBlock, squeezed};
 
-fn wide(b: u8) -> u64
-    ensures { λ r. ⌜ (r ≡ b) × (r < 256) ⌝ }
-{
-    b as u64
-}
-
 // The lane whose eight bytes, lowest first, start at `at`. The compiler makes one load of it.
 fn lane_at(b: &[u8], at: usize) -> u64
     requires { ⌜ at + 8 ≤ length (now b) ⌝ }
     ensures { λ r. ⌜ r ≡ laneAt (now (b .entry)) at ⌝ }
 {
-    let b0 = wide(b[at]);
-    let b1 = wide(b[at + 1]);
-    let b2 = wide(b[at + 2]);
-    let b3 = wide(b[at + 3]);
-    let b4 = wide(b[at + 4]);
-    let b5 = wide(b[at + 5]);
-    let b6 = wide(b[at + 6]);
-    let b7 = wide(b[at + 7]);
+    let b0 = octets::wide(b[at]);
+    let b1 = octets::wide(b[at + 1]);
+    let b2 = octets::wide(b[at + 2]);
+    let b3 = octets::wide(b[at + 3]);
+    let b4 = octets::wide(b[at + 4]);
+    let b5 = octets::wide(b[at + 5]);
+    let b6 = octets::wide(b[at + 6]);
+    let b7 = octets::wide(b[at + 7]);
     b0
         + b1 * 0x100
         + b2 * 0x1_0000

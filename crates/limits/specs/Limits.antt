@@ -15,7 +15,8 @@ use Rattle.entry.specs.declared.EndpointProof.the-variants.{At}
 use Rattle.entry.specs.declared.PingState.the-variants.{Out}
 use Rattle.bucket_model.specs.Rules.{millis, proofHolds, proofExpired, isOverdue}
 use Rattle.packet_laws.specs.Sizes.{ReplySizes}
-use Rattle.packet.specs.declared.Packet.the-variants.{EnrRequest, Refused}
+use Rattle.packet.specs.declared.Packet.the-variants.{EnrRequest}
+use Rattle.packet.specs.declared.Parsed.the-variants.{Packet, Refused}
 use Rattle.packet_datagram.specs.Datagram.{packetIn, expired, readAt}
 
 pub record Limits : Type 0 where
@@ -55,6 +56,6 @@ pub record Limits : Type 0 where
   -- P12 "expiration 9 at Unix time 9 passes, at 10 doesn't": the test, and a datagram that is an ENRRequest with this expiration
   pub p12-passes : expired 9 (record { 0 = 9 }) ≡ false
   pub p12-fails : expired 9 (record { 0 = 10 }) ≡ true
-  pub p12-accepted : (g : Bytes) → packetIn g ≡ EnrRequest (record { expiration = 9 })
-      → readAt g (record { 0 = 9 }) ≡ EnrRequest (record { expiration = 9 })
-  pub p12-refused : (g : Bytes) → packetIn g ≡ EnrRequest (record { expiration = 9 }) → readAt g (record { 0 = 10 }) ≡ Refused 11
+  pub p12-accepted : (g : Bytes) → packetIn g ≡ Packet (EnrRequest (record { expiration = 9 }))
+      → readAt g (record { 0 = 9 }) ≡ Packet (EnrRequest (record { expiration = 9 }))
+  pub p12-refused : (g : Bytes) → packetIn g ≡ Packet (EnrRequest (record { expiration = 9 })) → readAt g (record { 0 = 10 }) ≡ Refused 11

@@ -7,7 +7,7 @@ use Rattle.octets.specs.Octets.{Bytes, part, store}
 use Rattle.octets.proofs.Laws.{part-store}
 use Rattle.text.specs.Hex.{unhex}
 use Rattle.text.proofs.Hex.{length-unhex}
-use Rattle.log_line.specs.declared.Span.{Span}
+use Rattle.packet_span.specs.declared.Span.{Span}
 use Rattle.log_line.specs.Fields.{text, said}
 
 pub said-of : (line : Bytes) (f : Span) {t : Bytes} → t ≡ text line f → unhex t ≡ said line f

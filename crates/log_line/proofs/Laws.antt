@@ -12,7 +12,7 @@ use Rattle.lists.proofs.Laws.{byTest, never, and-left, and-right}
 use Rattle.text.specs.Hex.{isHex, unhex}
 use Rattle.text.proofs.Hex.{hex-sound}
 use Rattle.log_lines.specs.Lines.{limit, held}
-use Rattle.log_line.specs.declared.Span.{Span}
+use Rattle.packet_span.specs.declared.Span.{Span}
 use Rattle.log_line.specs.declared.Kind.{Kind}
 use Rattle.log_line.specs.declared.Kind.the-variants.{Number, Hex, HexOrDash}
 use Rattle.log_line.specs.Fields.{fields, text, field, Within}

@@ -12,7 +12,7 @@ use Rattle.text.specs.declared.Decimal.the-variants.{Value, NotDecimal}
 use Rattle.text.specs.Decimals.{decimalOf}
 use Rattle.text.proofs.Decimals.{decimal-sound}
 use Rattle.log_lines.specs.Lines.{limit}
-use Rattle.log_line.specs.declared.Span.{Span}
+use Rattle.packet_span.specs.declared.Span.{Span}
 use Rattle.log_line.specs.declared.Line.{Line}
 use Rattle.log_line.specs.declared.Line.the-variants.{Own, Rx, Sent, Sweep, Unreadable}
 use Rattle.log_line.specs.Fields.{fields, text, field}

@@ -11,7 +11,7 @@ use Rattle.octets.specs.Octets.{Bytes, sameBytes}
 use Rattle.text.specs.declared.Decimal.the-variants.{Value, NotDecimal}
 use Rattle.text.specs.Decimals.{decimalOf}
 use Rattle.text.proofs.Decimals.{decimal-sound}
-use Rattle.log_line.specs.declared.Span.{Span}
+use Rattle.packet_span.specs.declared.Span.{Span}
 use Rattle.log_line.specs.declared.Kind.{Kind}
 use Rattle.log_line.specs.declared.Kind.the-variants.{Number}
 use Rattle.log_line.specs.Fields.{span, text, field}

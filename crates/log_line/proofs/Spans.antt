@@ -13,7 +13,7 @@ use lib.Seq.{drop-cons, getD-set-same, getD-set-other, take-nil}
 use Rattle.octets.specs.Octets.{Bytes, part, store}
 use Rattle.octets.proofs.Laws.{length-store, part-store}
 use Rattle.lists.proofs.Laws.{byTest}
-use Rattle.log_line.specs.declared.Span.{Span}
+use Rattle.packet_span.specs.declared.Span.{Span}
 use Rattle.log_line.specs.declared.Fields.{Fields}
 use Rattle.log_line.specs.Fields.{span, fieldsFrom, fields, field, Within, counted, added}
 

@@ -7,7 +7,7 @@ use lib.ListN.{length, getD, set, replicate}
 use Rattle.lists.specs.Lists.{all}
 use Rattle.octets.specs.Octets.{Bytes, part, store}
 use Rattle.text.specs.Hex.{unhex}
-use Rattle.log_line.specs.declared.Span.{Span}
+use Rattle.packet_span.specs.declared.Span.{Span}
 use Rattle.log_line.specs.declared.Fields.{Fields}
 
 abbrev pub span : ℕ → ℕ → Span

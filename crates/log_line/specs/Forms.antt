@@ -13,7 +13,7 @@ use Rattle.text.specs.declared.Decimal.{Decimal}
 use Rattle.text.specs.declared.Decimal.the-variants.{Value, NotDecimal}
 use Rattle.log_lines.specs.Lines.{limit, Held, whole, tooLong}
 use Rattle.log_line.specs.Fields.{span, fields, text, field}
-use Rattle.log_line.specs.declared.Span.{Span}
+use Rattle.packet_span.specs.declared.Span.{Span}
 use Rattle.log_line.specs.declared.Kind.{Kind}
 use Rattle.log_line.specs.declared.Kind.the-variants.{Number, Hex, HexOrDash}
 use Rattle.log_line.specs.declared.Line.{Line}

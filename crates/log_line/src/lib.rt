@@ -8,13 +8,8 @@ ghost use Rattle.log_line.specs.Fields as spec;
 ghost use Rattle.log_line.specs.Forms.{lineOf};
 ghost use Rattle.log_line.specs.Forms as form;
 use octets::same_bytes;
+use packet_span::Span;
 use text::Decimal;
-
-// Bytes of the line: `len` of them from `start` on.
-pub struct Span {
-    pub start: usize,
-    pub len: usize,
-}
 
 // What a line says. Spans are of hex digits.
 pub enum Line {

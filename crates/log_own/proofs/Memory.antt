@@ -11,7 +11,7 @@ use Rattle.octets.specs.Octets.{Bytes, part, store}
 use Rattle.octets.proofs.Laws.{store-eq, part-store}
 use Rattle.lists.proofs.Laws.{byTest}
 use Rattle.log_own.specs.declared.Replay.{Replay}
-use Rattle.log_own.specs.Answered.{sizeOf}
+use Rattle.log_own.specs.Steps.{sizeOf}
 
 -- ---- sizes
 

@@ -22,7 +22,7 @@ use Rattle.table.proofs.Fresh.{room}
 use Rattle.log_answer.specs.AnswerRows.{answerRoom, numberRow}
 use Rattle.log_own.specs.declared.Replay.{Replay}
 use Rattle.log_own.specs.OwnLine.{isCount, ownNumber, ownAnswer, ownAfter}
-use Rattle.log_own.specs.Answered.{sizeOf, stateOf, Answered}
+use Rattle.log_own.specs.Steps.{sizeOf, stateOf, Answered}
 use Rattle.log_own.proofs.Memory.{size-some, size-most, size-fits, front-stored, front-is, front-same, front-part}
 
 pub length-fresh : (key : Bytes) (count : ℕ) → 1 ≤ count → count ≤ 256 → length (freshTable key count) ≡ offsetOf count

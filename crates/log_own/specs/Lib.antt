@@ -1,2 +1,2 @@
 pub mod OwnLine
-pub mod Answered
+pub mod Steps

@@ -9,10 +9,11 @@ ghost use Rattle.table.specs.Init.{freshTable};
 ghost use Rattle.log_line.specs.Fields.{said};
 ghost use Rattle.log_answer.specs.AnswerRows.{answerRoom, numberRow};
 ghost use Rattle.log_own.specs.OwnLine.{ownNumber, ownAnswer, ownAfter};
-ghost use Rattle.log_own.specs.Answered.{sizeOf, stateOf, Answered};
+ghost use Rattle.log_own.specs.Steps.{sizeOf, stateOf, Answered};
+use bucket::Bucket;
 use log_answer::put_number;
-use log_line::Span;
 use log_line::decode_field;
+use packet_span::Span;
 
 // The bytes that a table of 16 buckets takes, the most of a replayed table.
 pub const MEMORY: usize = 46304;
@@ -50,7 +51,7 @@ impl Replay {
         if count == 0 {
             return 0;
         }
-        table::HEADER_SIZE + count * table::BUCKET_SIZE
+        table::HEADER_SIZE + count * Bucket::SIZE
     }
 }
 
@@ -61,13 +62,13 @@ fn make(memory: &mut [u8], key: &[u8], buckets: u64) -> u8
     ensures bytes { λ r. ⌜ now (memory .exit) ≡ cond (eqb r 0) (store (now (memory .entry)) 0 (freshTable (now (key .entry)) buckets)) (now (memory .entry)) ⌝ }
 {
     if buckets < 1 {
-        return 1;
+        return numbers::UNSOUND;
     }
     if 16 < buckets {
-        return 1;
+        return numbers::UNSOUND;
     }
     let count = buckets as usize;
-    let size = table::HEADER_SIZE + count * table::BUCKET_SIZE;
+    let size = table::HEADER_SIZE + count * Bucket::SIZE;
     table::init(&mut memory[0..size], key, count)
 }
 
@@ -84,7 +85,7 @@ pub fn own(
     ensures { λ r. ⌜ Answered (ownAfter (stateOf replay (now (memory .entry))) buckets (said (now (line .entry)) key)) (numberRow (ownAnswer (stateOf replay (now (memory .entry))) buckets (said (now (line .entry)) key))) (now (memory .entry)) (now (out .entry)) r (now (memory .exit)) (now (out .exit)) ⌝ }
 {
     if replay.owned {
-        let len = put_number(out, 21);
+        let len = put_number(out, numbers::UNREADABLE);
         return Stepped { replay, len };
     }
     let mut bytes = [0u8; 1500];

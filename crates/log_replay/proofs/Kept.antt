@@ -14,7 +14,7 @@ use Rattle.text.proofs.Hex.{bytes-unhex}
 use Rattle.keccak.specs.Sponge.{keccak256}
 use Rattle.keccak.proofs.Laws.{keccak256-length, keccak256-bytes}
 use Rattle.log_lines.specs.Lines.{Held, whole, tooLong}
-use Rattle.log_line.specs.declared.Span.{Span}
+use Rattle.packet_span.specs.declared.Span.{Span}
 use Rattle.log_line.specs.declared.Line.{Line}
 use Rattle.log_line.specs.declared.Line.the-variants.{Own, Rx, Sent, Sweep, Unreadable}
 use Rattle.log_line.specs.Fields.{text, said}
@@ -33,12 +33,12 @@ use Rattle.call_history.proofs.Step.{keccak-lawful}
 use Rattle.call_history.proofs.Sound.{TableSound, IsTable, fresh-sound, fresh-values, next-sound, next-values}
 use Rattle.call_model.specs.Calls.{bytesAfter}
 use Rattle.call_model.specs.Reading.{reading}
-use Rattle.call_model.specs.Demand3.{encode}
+use Rattle.call_model.specs.OverBytes.{encode}
 use Rattle.call_model.proofs.Form.{table-form}
 use Rattle.call_model.proofs.Step.{step-follows}
 use Rattle.log_own.specs.declared.Replay.{Replay}
 use Rattle.log_own.specs.OwnLine.{State, ownNumber, ownAnswer, ownAfter}
-use Rattle.log_own.specs.Answered.{sizeOf, stateOf}
+use Rattle.log_own.specs.Steps.{sizeOf, stateOf}
 use Rattle.log_own.proofs.Memory.{size-some, size-fits}
 use Rattle.log_own.proofs.OwnLine.{accepted-count}
 use Rattle.log_replay.specs.Replay.{lineAfter, after, Reached, start, line as reached-line}

@@ -1,4 +1,4 @@
-pub mod LineCallsLines
+pub mod CallLines
 pub mod Fields
 pub mod Answered
 pub mod Lines

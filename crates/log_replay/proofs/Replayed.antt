@@ -14,7 +14,7 @@ use Rattle.log_lines.proofs.Chunks.{feeds-lines}
 use Rattle.log_answer.specs.AnswerRows.{answerRoom, numberRow}
 use Rattle.log_own.specs.declared.Replay.{Replay}
 use Rattle.log_own.specs.OwnLine.{startState}
-use Rattle.log_own.specs.Answered.{sizeOf, stateOf}
+use Rattle.log_own.specs.Steps.{sizeOf, stateOf}
 use Rattle.log_own.proofs.Memory.{front-is}
 use Rattle.log_replay.specs.Replay.{answer, after, ending, outputFrom, replayed}
 use Rattle.log_replay.specs.Steps.{AnsweredLine, Runs, done, next}

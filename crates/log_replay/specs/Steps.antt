@@ -7,7 +7,7 @@ use Rattle.log_lines.specs.Lines.{Held}
 use Rattle.log_answer.specs.AnswerRows.{answerRoom}
 use Rattle.log_own.specs.declared.Replay.{Replay}
 use Rattle.log_own.specs.declared.Stepped.{Stepped}
-use Rattle.log_own.specs.Answered.{stateOf, Answered}
+use Rattle.log_own.specs.Steps.{stateOf, Answered}
 use Rattle.log_replay.specs.Replay.{answer, after}
 
 -- a line is answered by the rules

@@ -11,19 +11,19 @@ ghost use Rattle.log_line.specs.Fields.{said};
 ghost use Rattle.log_answer.specs.AnswerRows.{answerRoom, numberRow};
 ghost use Rattle.log_answer.specs.AnswerLine.{receivedRow};
 ghost use Rattle.log_lines.specs.Lines.{whole};
-ghost use Rattle.log_own.specs.Answered.{stateOf};
-ghost use Rattle.printout.specs.Held as held;
+ghost use Rattle.log_own.specs.Steps.{stateOf};
+ghost use Rattle.printout.specs.Steps as held;
 ghost use Rattle.log_replay.specs.Replay.{Reached, ending};
 ghost use Rattle.log_replay.specs.Steps.{AnsweredLine};
-use entry::MonotonicMillis;
-use entry::UnixSeconds;
 use log_answer::put_number;
 use log_line::Line;
-use log_line::Span;
 use log_line::decode_field;
 use log_own::Replay;
 use log_own::Stepped;
 use log_own::own;
+use node::MonotonicMillis;
+use node::UnixSeconds;
+use packet_span::Span;
 
 // `rx`: milliseconds, Unix seconds, address, port, signer, datagram.
 pub fn rx(
@@ -157,7 +157,7 @@ pub fn step(memory: &mut [u8], out: &mut [u8], replay: Replay, line: &[u8]) -> S
             hash,
         ),
         Line::Sweep { now } => sweep(&mut memory[0..size], out, now),
-        Line::Unreadable => put_number(out, 21),
+        Line::Unreadable => put_number(out, numbers::UNREADABLE),
     };
     Stepped { replay, len }
 }
@@ -183,5 +183,5 @@ pub fn too_long(out: &mut [u8]) -> usize
     ensures written { λ _. ⌜ now (out .exit) ≡ store (now (out .entry)) 0 (numberRow 21) ⌝ }
     ensures room { λ r. ⌜ r ≤ answerRoom ⌝ }
 {
-    put_number(out, 21)
+    put_number(out, numbers::UNREADABLE)
 }

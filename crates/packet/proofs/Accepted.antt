@@ -2,7 +2,6 @@
 use Prim.Native.Nat.{ℕ, _+_, _≤_}
 use mathlib.Core.Path.{_≡_, refl, sym, ap, subst, _∙_}
 use mathlib.Core.Logic.{_↔_}
-use mathlib.Core.Bool.{Bool, true, false, false≢true}
 use mathlib.Core.List.{List}
 use native.Mathlib.Omega.{arith}
 use lib.ListN.{length, drop}
@@ -17,27 +16,20 @@ use Rattle.packet_schema.proofs.Shapes.{AllLimited}
 use Rattle.packet_schema.proofs.Accepted.{small-data, good-accepted, accepted-good}
 use Rattle.packet_span.specs.Parts.{bytesOf}
 use Rattle.packet_fields.specs.Spans.{spanOf}
-use Rattle.packet.specs.Packets.{schemaOf, requiredOf, isKnown, packetOf, answered, readAs}
+use Rattle.packet.specs.Packets.{schemaOf, requiredOf, packetOf, answered, readAs, readTyped}
 use Rattle.packet.specs.declared.PacketType.{PacketType}
 use Rattle.packet.specs.declared.PacketType.the-variants as type
+use Rattle.packet.specs.declared.TypeByte.{TypeByte}
+use Rattle.packet.specs.declared.TypeByte.the-variants.{Known, Unknown}
 use Rattle.packet.specs.declared.Packet.{Packet}
 use Rattle.packet.specs.declared.Packet.the-variants as packet
+use Rattle.packet.specs.declared.Parsed.the-variants as parsed
 use Rattle.packet.proofs.Values.{Lies, lies-drop, lies-inner, data-payload}
 
--- a packet, not an answer's number
-abbrev pub isPacket : Packet → Bool
-isPacket (packet.Ping p) = true
-isPacket (packet.Pong p) = true
-isPacket (packet.FindNode p) = true
-isPacket (packet.Neighbors p) = true
-isPacket (packet.EnrRequest p) = true
-isPacket (packet.EnrResponse p) = true
-isPacket (packet.Refused number) = false
-
-answered-good : (v : Verdict) (x y : Packet) → isPacket y ≡ true → answered v x ≡ y → (v ≡ Good) × (x ≡ y)
-answered-good Good x y h e = (refl, e)
-answered-good Broken x y h e = absurd (false≢true (ap isPacket e ∙ h))
-answered-good Wrong x y h e = absurd (false≢true (ap isPacket e ∙ h))
+answered-good : (v : Verdict) (x y : Packet) → answered v x ≡ parsed.Packet y → (v ≡ Good) × (x ≡ y)
+answered-good Good x y e = (refl, cc)
+answered-good Broken x y e = absurd (let z : _≡_ {A = ℕ} 0 1 = cc in omega arith)
+answered-good Wrong x y e = absurd (let z : _≡_ {A = ℕ} 0 1 = cc in omega arith)
 
 -- a packet's type
 abbrev pub typeIn : Packet → PacketType
@@ -47,7 +39,6 @@ typeIn (packet.FindNode p) = type.FindNode
 typeIn (packet.Neighbors p) = type.Neighbors
 typeIn (packet.EnrRequest p) = type.EnrRequest
 typeIn (packet.EnrResponse p) = type.EnrResponse
-typeIn (packet.Refused number) = type.Unknown
 
 typed : (t : PacketType) (base : ℕ) (s : Bytes) → typeIn (packetOf t base s) ≡ t
 typed type.Ping base s = refl
@@ -56,18 +47,14 @@ typed type.FindNode base s = refl
 typed type.Neighbors base s = refl
 typed type.EnrRequest base s = refl
 typed type.EnrResponse base s = refl
-typed type.Unknown base s = refl
 
 -- a packet is read by its own type only
-pub read-type : (t : PacketType) (base : ℕ) (d : Bytes) (y : Packet) → isPacket y ≡ true → readAs t base d ≡ y → t ≡ typeIn y
+pub read-type : (t : TypeByte) (base : ℕ) (d : Bytes) (y : Packet) → readTyped t base d ≡ parsed.Packet y → t ≡ Known (typeIn y)
 unfolding readAs
-read-type t base d y h e = go (isKnown t) refl
-  where
-    go : (k : Bool) → isKnown t ≡ k → t ≡ typeIn y
-    go true k =
-        let r = answered-good (verdict (requiredOf t) (schemaOf t) d) (packetOf t (base + (spanOf 0 d) .start) (bytesOf d (spanOf 0 d))) y h (rw k at e) in
-        sym (typed t (base + (spanOf 0 d) .start) (bytesOf d (spanOf 0 d))) ∙ ap typeIn (r .1)
-    go false k = absurd (false≢true (ap isPacket (rw k at e) ∙ h))
+read-type (Known t) base d y e =
+    let r = answered-good (verdict (requiredOf t) (schemaOf t) d) (packetOf t (base + (spanOf 0 d) .start) (bytesOf d (spanOf 0 d))) y e in
+    ap Known (sym (typed t (base + (spanOf 0 d) .start) (bytesOf d (spanOf 0 d))) ∙ ap typeIn (r .1))
+read-type Unknown base d y e = absurd (let z : _≡_ {A = ℕ} 0 1 = cc in omega arith)
 
 -- the integer limits of all schemas fit 64 bits
 limits : (t : PacketType) → AllLimited (schemaOf t)
@@ -77,7 +64,6 @@ limits type.FindNode = (tt, (omega arith, tt))
 limits type.Neighbors = (tt, (omega arith, tt))
 limits type.EnrRequest = (omega arith, tt)
 limits type.EnrResponse = (tt, (tt, tt))
-limits type.Unknown = tt
 
 -- the items of data, as the readers meet them: the payload of the data's list lies in g
 module _ (g : Bytes) (base : ℕ) (sl : Slice g) (fits : base ≤ length g) where
@@ -104,27 +90,27 @@ module _ (g : Bytes) (base : ℕ) (sl : Slice g) (fits : base ≤ length g) wher
   payload-items is b = data-payload bytesFrom is (small-items is b) b
 
   -- accepted exactly if the data begins with the encoding of values of the schema's kinds
-  pub read-good : (t : PacketType) → isKnown t ≡ true → Accepted (requiredOf t) (schemaOf t) bytesFrom → readAs t base bytesFrom ≡ packetOf t start payload
+  pub read-good : (t : PacketType) → Accepted (requiredOf t) (schemaOf t) bytesFrom → readAs t base bytesFrom ≡ parsed.Packet (packetOf t start payload)
   unfolding readAs
-  read-good t k a = rw (k, accepted-good (requiredOf t) (schemaOf t) bytesFrom slice-data (limits t) a)
+  read-good t a = rw (accepted-good (requiredOf t) (schemaOf t) bytesFrom slice-data (limits t) a)
 
-  pub good-read : (t : PacketType) (y : Packet) → isPacket y ≡ true → isKnown t ≡ true → readAs t base bytesFrom ≡ y → Accepted (requiredOf t) (schemaOf t) bytesFrom × (packetOf t start payload ≡ y)
+  pub good-read : (t : PacketType) (y : Packet) → readAs t base bytesFrom ≡ parsed.Packet y → Accepted (requiredOf t) (schemaOf t) bytesFrom × (packetOf t start payload ≡ y)
   unfolding readAs
-  good-read t y h k e =
-      let r = answered-good (verdict (requiredOf t) (schemaOf t) bytesFrom) (packetOf t start payload) y h (rw k at e) in
+  good-read t y e =
+      let r = answered-good (verdict (requiredOf t) (schemaOf t) bytesFrom) (packetOf t start payload) y e in
       (good-accepted (requiredOf t) (schemaOf t) bytesFrom slice-data (r .0), r .1)
 
   -- accepted with the fields f exactly if encoded: from what the items show, what they need, and the values that are read
-  pub both : {P F : Type 0} (t : PacketType) → isKnown t ≡ true → (C : P → Packet) → ((p : P) → isPacket (C p) ≡ true) → ((p q : P) → C p ≡ C q → p ≡ q)
+  pub both : {P F : Type 0} (t : PacketType) (C : P → Packet) → ((p q : P) → C p ≡ C q → p ≡ q)
       → (made : P) → packetOf t start payload ≡ C made → (fieldsOf : P → F) (Encoded : F → Type 0)
       → (Accepted (requiredOf t) (schemaOf t) bytesFrom → (f : F) × Encoded f)
       → ((f : F) → Encoded f → Accepted (requiredOf t) (schemaOf t) bytesFrom)
       → ((f : F) → Encoded f → fieldsOf made ≡ f)
-      → (f : F) → ((p : P) × (readAs t base bytesFrom ≡ C p) × (fieldsOf p ≡ f)) ↔ Encoded f
-  both t known C isC inj made is fieldsOf Encoded forth back values f = (
+      → (f : F) → ((p : P) × (readAs t base bytesFrom ≡ parsed.Packet (C p)) × (fieldsOf p ≡ f)) ↔ Encoded f
+  both t C inj made is fieldsOf Encoded forth back values f = (
     (λ r.
-        let a = good-read t (C (r .0)) (isC (r .0)) known (r .1) in
+        let a = good-read t (C (r .0)) (r .1) in
         let e = forth (a .0) in
         subst Encoded (sym (values (e .0) (e .1)) ∙ ap fieldsOf (inj made (r .0) (sym is ∙ a .1)) ∙ r .2) (e .1)),
-    (λ e. (made, read-good t known (back f e) ∙ is, values f e)),
+    (λ e. (made, read-good t (back f e) ∙ ap parsed.Packet is, values f e)),
   )

@@ -7,7 +7,8 @@ use Rattle.packet_schema.specs.Payload.{itemsOf}
 use Rattle.packet_schema.specs.Schema.{field}
 use Rattle.packet_fields.specs.Spans.{spanOf, itemSpan, uintItem, portItem, enrSeqItem}
 use Rattle.packet.specs.Packets.{typeOf, enrRequestOf, readAs, readData}
-use Rattle.packet.specs.declared.Packet.the-variants.{EnrRequest, Refused}
+use Rattle.packet.specs.declared.Packet.the-variants.{EnrRequest}
+use Rattle.packet.specs.declared.Parsed.the-variants.{Packet, Refused}
 
 pub record Examples : Type 0 where
   -- an unknown type is never parsed
@@ -17,9 +18,9 @@ pub record Examples : Type 0 where
   pub a-string : readData 5 98 (0x80 ∷ []) ≡ Refused 9
   pub no-field : readData 5 98 (0xc0 ∷ []) ≡ Refused 10
   -- an expiration of 9, then an item that is ignored, then bytes after the list
-  pub expiration-9 : readData 5 98 (0xc2 ∷ 0x09 ∷ 0x80 ∷ 0xff ∷ []) ≡ EnrRequest (record { expiration = 9 })
+  pub expiration-9 : readData 5 98 (0xc2 ∷ 0x09 ∷ 0x80 ∷ 0xff ∷ []) ≡ Packet (EnrRequest (record { expiration = 9 }))
   -- the inside of an ignored list is not examined, its header is
-  pub ignored-inside : readData 5 98 (0xc3 ∷ 0x09 ∷ 0xc1 ∷ 0x81 ∷ []) ≡ EnrRequest (record { expiration = 9 })
+  pub ignored-inside : readData 5 98 (0xc3 ∷ 0x09 ∷ 0xc1 ∷ 0x81 ∷ []) ≡ Packet (EnrRequest (record { expiration = 9 }))
   pub ignored-torn : readData 5 98 (0xc3 ∷ 0x09 ∷ 0xc2 ∷ 0x81 ∷ []) ≡ Refused 9
   -- integers: a header on a byte below 0x80 is 9, a leading zero 10, a list 10
   pub plain-with-header : readData 5 98 (0xc2 ∷ 0x81 ∷ 0x7f ∷ []) ≡ Refused 9

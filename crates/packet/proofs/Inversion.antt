@@ -18,6 +18,7 @@ use Rattle.packet.specs.Packets.{anyUint, schemaOf, senderOf, pingOf, po
 use Rattle.packet.specs.Accepted.{trailing, SeqFits, PingFields, pingFields, PingEncoded, PongFields, pongFields, PongEncoded, FindNodeFields, findNodeFields, FindNodeEncoded, EnrRequestFields, enrRequestFields, EnrRequestEncoded, EnrResponseFields, enrResponseFields, EnrResponseEncoded}
 use Rattle.packet.specs.declared.PacketType.the-variants as type
 use Rattle.packet.specs.declared.Packet.the-variants as packet
+use Rattle.packet.specs.declared.Parsed.the-variants as parsed
 use Rattle.packet.specs.declared.Ping.{Ping}
 use Rattle.packet.specs.declared.Pong.{Pong}
 use Rattle.packet.specs.declared.FindNode.{FindNode}
@@ -177,9 +178,9 @@ module _ (g : Bytes) (base : ℕ) (sl : Slice g) (fits : base ≤ length g) wher
         enr-seq = seq-at _ b 4 (f .enr-seq) (e .more) refl (omega arith) (e .enr-seq-fits) i;
       }
 
-  pub ping-accepted : (f : PingFields) → ((p : Ping) × (readAs type.Ping base d ≡ packet.Ping p) × (pingFields g p ≡ f)) ↔ PingEncoded d f
+  pub ping-accepted : (f : PingFields) → ((p : Ping) × (readAs type.Ping base d ≡ parsed.Packet (packet.Ping p)) × (pingFields g p ≡ f)) ↔ PingEncoded d f
   ping-accepted =
-      both g base sl fits type.Ping refl packet.Ping (λ p. refl) (λ p q e. cc) (pingOf at s) refl (pingFields g) (PingEncoded d) ping-found ping-accepted′ ping-values
+      both g base sl fits type.Ping packet.Ping (λ p q e. cc) (pingOf at s) refl (pingFields g) (PingEncoded d) ping-found ping-accepted′ ping-values
 
   -- ---- 2 Pong
 
@@ -233,9 +234,9 @@ module _ (g : Bytes) (base : ℕ) (sl : Slice g) (fits : base ≤ length g) wher
         enr-seq = seq-at _ b 3 (f .enr-seq) (e .more) refl (omega arith) (e .enr-seq-fits) i;
       }
 
-  pub pong-accepted : (f : PongFields) → ((p : Pong) × (readAs type.Pong base d ≡ packet.Pong p) × (pongFields g p ≡ f)) ↔ PongEncoded d f
+  pub pong-accepted : (f : PongFields) → ((p : Pong) × (readAs type.Pong base d ≡ parsed.Packet (packet.Pong p)) × (pongFields g p ≡ f)) ↔ PongEncoded d f
   pong-accepted =
-      both g base sl fits type.Pong refl packet.Pong (λ p. refl) (λ p q e. cc) (pongOf at s) refl (pongFields g) (PongEncoded d) pong-found pong-accepted′ pong-values
+      both g base sl fits type.Pong packet.Pong (λ p q e. cc) (pongOf at s) refl (pongFields g) (PongEncoded d) pong-found pong-accepted′ pong-values
 
   -- ---- 5 ENRRequest
 
@@ -265,9 +266,9 @@ module _ (g : Bytes) (base : ℕ) (sl : Slice g) (fits : base ≤ length g) wher
   unfolding enrRequestOf
   request-values f e = λ i. record { expiration = uint-at _ (e .begins) 0 refl (e .expiration-fits) i }
 
-  pub enr-request-accepted : (f : EnrRequestFields) → ((p : EnrRequest) × (readAs type.EnrRequest base d ≡ packet.EnrRequest p) × (enrRequestFields p ≡ f)) ↔ EnrRequestEncoded d f
+  pub enr-request-accepted : (f : EnrRequestFields) → ((p : EnrRequest) × (readAs type.EnrRequest base d ≡ parsed.Packet (packet.EnrRequest p)) × (enrRequestFields p ≡ f)) ↔ EnrRequestEncoded d f
   enr-request-accepted =
-      both g base sl fits type.EnrRequest refl packet.EnrRequest (λ p. refl) (λ p q e. cc) (enrRequestOf s) refl enrRequestFields (EnrRequestEncoded d) request-found request-accepted request-values
+      both g base sl fits type.EnrRequest packet.EnrRequest (λ p q e. cc) (enrRequestOf s) refl enrRequestFields (EnrRequestEncoded d) request-found request-accepted request-values
 
   -- ---- 3 FindNode
 
@@ -303,9 +304,9 @@ module _ (g : Bytes) (base : ℕ) (sl : Slice g) (fits : base ≤ length g) wher
   find-values f e =
       λ i. record { target = bytes-at _ (e .begins) 0 refl i; expiration = uint-at _ (e .begins) 1 refl (e .expiration-fits) i }
 
-  pub find-node-accepted : (f : FindNodeFields) → ((p : FindNode) × (readAs type.FindNode base d ≡ packet.FindNode p) × (findNodeFields g p ≡ f)) ↔ FindNodeEncoded d f
+  pub find-node-accepted : (f : FindNodeFields) → ((p : FindNode) × (readAs type.FindNode base d ≡ parsed.Packet (packet.FindNode p)) × (findNodeFields g p ≡ f)) ↔ FindNodeEncoded d f
   find-node-accepted =
-      both g base sl fits type.FindNode refl packet.FindNode (λ p. refl) (λ p q e. cc) (findNodeOf at s) refl (findNodeFields g) (FindNodeEncoded d) find-found find-accepted find-values
+      both g base sl fits type.FindNode packet.FindNode (λ p q e. cc) (findNodeOf at s) refl (findNodeFields g) (FindNodeEncoded d) find-found find-accepted find-values
 
   -- ---- 6 ENRResponse
 
@@ -344,6 +345,6 @@ module _ (g : Bytes) (base : ℕ) (sl : Slice g) (fits : base ≤ length g) wher
       let r = record-at _ (e .begins) 1 (omega arith) refl ∙ sym (e .enr-is) in
       λ i. record { request-hash = bytes-at _ (e .begins) 0 refl i; enr = r i }
 
-  pub enr-response-accepted : (f : EnrResponseFields) → ((p : EnrResponse) × (readAs type.EnrResponse base d ≡ packet.EnrResponse p) × (enrResponseFields g p ≡ f)) ↔ EnrResponseEncoded d f
+  pub enr-response-accepted : (f : EnrResponseFields) → ((p : EnrResponse) × (readAs type.EnrResponse base d ≡ parsed.Packet (packet.EnrResponse p)) × (enrResponseFields g p ≡ f)) ↔ EnrResponseEncoded d f
   enr-response-accepted =
-      both g base sl fits type.EnrResponse refl packet.EnrResponse (λ p. refl) (λ p q e. cc) (enrResponseOf at s) refl (enrResponseFields g) (EnrResponseEncoded d) response-found response-accepted response-values
+      both g base sl fits type.EnrResponse packet.EnrResponse (λ p q e. cc) (enrResponseOf at s) refl (enrResponseFields g) (EnrResponseEncoded d) response-found response-accepted response-values

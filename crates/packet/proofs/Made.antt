@@ -1,7 +1,6 @@
 -- What the functions over a payload's fields make of them.
 use Prim.Native.Nat.{ℕ, _+_}
 use mathlib.Core.Path.{_≡_, sym, ap, _∙_}
-use mathlib.Core.Bool.{true}
 use mathlib.Core.List.{List}
 use lib.ListN.{length, take}
 use Rattle.octets.specs.Octets.{Bytes}
@@ -11,8 +10,10 @@ use Rattle.packet_schema.specs.declared.Verdict.{Verdict}
 use Rattle.packet_schema.specs.declared.Verdict.the-variants.{Good}
 use Rattle.packet_span.specs.Parts.{bytesOf, moved}
 use Rattle.packet_fields.specs.Spans.{spanOf, portItem}
-use Rattle.packet.specs.Packets.{senderOf, isKnown, schemaOf, requiredOf, packetOf, answered, readAs}
+use Rattle.packet.specs.Packets.{senderOf, schemaOf, requiredOf, packetOf, answered, readAs}
 use Rattle.packet.specs.declared.Packet.{Packet}
+use Rattle.packet.specs.declared.Parsed.{Parsed}
+use Rattle.packet.specs.declared.Parsed.the-variants as parsed
 use Rattle.packet.specs.declared.PacketType.{PacketType}
 use Rattle.packet_span.specs.declared.Span.{Span}
 
@@ -33,7 +34,7 @@ module _ (base n : ℕ) (s : Bytes) (span : Span) (e : Bytes) (is : span ≡ spa
 
 -- packet data that was read
 module _ (t : PacketType) (base : ℕ) (d : Bytes) (v : Verdict) (kinds : List Kind) (n r : ℕ) (ks : take (length (schemaOf t)) kinds ≡ schemaOf t) (cs : n ≡ length (schemaOf t)) (rs : r ≡ requiredOf t)
-    (is : v ≡ verdict r (take n kinds) d) (known : isKnown t ≡ true) where
+    (is : v ≡ verdict r (take n kinds) d) where
   by-type : v ≡ verdict (requiredOf t) (schemaOf t) d
   by-type = is ∙ ap (λ (k : ℕ). verdict k (take n kinds) d) rs ∙ ap (λ (l : List Kind). verdict (requiredOf t) l d) (ap (λ (k : ℕ). take k kinds) cs ∙ ks)
 
@@ -42,15 +43,13 @@ module _ (t : PacketType) (base : ℕ) (d : Bytes) (v : Verdict) (kinds : List K
 
   pub read-verdict : answered v accepted ≡ readAs t base d
   unfolding readAs
-  read-verdict = rw (known, ← by-type)
+  read-verdict = rw (← by-type)
 
-  pub read-good : v ≡ Good → (span : Span) (p : Bytes) (x : Packet) → span ≡ spanOf 0 d → p ≡ bytesOf d span → x ≡ packetOf t (base + span .start) p → x ≡ readAs t base d
+  pub read-good : v ≡ Good → (span : Span) (p : Bytes) (x : Packet) → span ≡ spanOf 0 d → p ≡ bytesOf d span → x ≡ packetOf t (base + span .start) p → parsed.Packet x ≡ readAs t base d
   read-good g span p x s e q =
-      q
-      ∙ ap (packetOf t (base + span .start)) e
-      ∙ ap (λ (y : Span). packetOf t (base + y .start) (bytesOf d y)) s
+      ap parsed.Packet (q ∙ ap (packetOf t (base + span .start)) e ∙ ap (λ (y : Span). packetOf t (base + y .start) (bytesOf d y)) s)
       ∙ sym (ap (λ (w : Verdict). answered w accepted) g)
       ∙ read-verdict
 
-  pub read-refused : {x : Packet} → ((w : Packet) → answered v w ≡ x) → x ≡ readAs t base d
+  pub read-refused : {x : Parsed} → ((w : Packet) → answered v w ≡ x) → x ≡ readAs t base d
   read-refused h = sym (h accepted) ∙ read-verdict

@@ -15,6 +15,7 @@ use Rattle.packet.specs.Packets.{schemaOf, neighborsOf, readAs}
 use Rattle.packet.specs.Accepted.{NeighborsFields, neighborsFields, NeighborsEncoded}
 use Rattle.packet.specs.declared.PacketType.the-variants as type
 use Rattle.packet.specs.declared.Packet.the-variants as packet
+use Rattle.packet.specs.declared.Parsed.the-variants as parsed
 use Rattle.packet.specs.declared.Neighbors.{Neighbors}
 use Rattle.packet.proofs.Accepted.{bytesFrom, payload, start, small-items, both}
 use Rattle.packet.proofs.Inversion.{fits-64, fits-any, missing, bytes-at, uint-at}
@@ -75,6 +76,6 @@ module _ (g : Bytes) (base : ℕ) (sl : Slice g) (fits : base ≤ length g) wher
       let n = ap nodesOf (bytes-at g base sl fits _ (e .begins) 0 refl) ∙ nodes-read (f .nodes) (e .nodes-good) (small-nodes f e) in
       λ i. record { nodes = n i; expiration = uint-at g base sl fits _ (e .begins) 1 refl (e .expiration-fits) i }
 
-  pub neighbors-accepted : (f : NeighborsFields) → ((p : Neighbors) × (readAs type.Neighbors base d ≡ packet.Neighbors p) × (neighborsFields g p ≡ f)) ↔ NeighborsEncoded d f
+  pub neighbors-accepted : (f : NeighborsFields) → ((p : Neighbors) × (readAs type.Neighbors base d ≡ parsed.Packet (packet.Neighbors p)) × (neighborsFields g p ≡ f)) ↔ NeighborsEncoded d f
   neighbors-accepted =
-      both g base sl fits type.Neighbors refl packet.Neighbors (λ p. refl) (λ p q e. cc) (neighborsOf (start g base sl fits) (payload g base sl fits)) refl (neighborsFields g) (NeighborsEncoded d) found accepted values
+      both g base sl fits type.Neighbors packet.Neighbors (λ p q e. cc) (neighborsOf (start g base sl fits) (payload g base sl fits)) refl (neighborsFields g) (NeighborsEncoded d) found accepted values

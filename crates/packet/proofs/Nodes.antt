@@ -15,11 +15,10 @@ use Rattle.rlp.proofs.Reading.{item-bounds}
 use Rattle.rlp.proofs.Writing.{header-short, header-long, encode-framed, encode-list}
 use Rattle.rlp.proofs.Encoding.{read-item, encode-length, small-first, small-rest}
 use Rattle.packet_model.specs.Items.{uint, node, nodeItem}
-use Rattle.packet_schema.specs.Kinds.{isAddress}
 use Rattle.packet_schema.specs.Shapes.{IsEndpoint, IsNode, AllNodes}
 use Rattle.packet_schema.proofs.Payload.{items-encodes}
-use Rattle.entry.specs.declared.Node.{Node}
-use Rattle.entry.specs.Nodes.{addressOf}
+use Rattle.node.specs.declared.Node.{Node}
+use Rattle.node.specs.Nodes.{addressOf, isAddress}
 use Rattle.packet_fields.specs.Spans.{fitting, padded, nodeOf, nodesOf}
 use Rattle.packet.specs.Accepted.{NodeGood, NodesGood}
 use Rattle.packet.proofs.Values.{Lies, item-is, port-is}

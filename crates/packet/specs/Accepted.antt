@@ -9,8 +9,8 @@ use Rattle.packet_model.specs.Items.{uint, endpoint, nodeItem, pingItems, pongI
 use Rattle.packet_model.specs.declared.EnrSeq.{EnrSeq}
 use Rattle.packet_model.specs.declared.EnrSeq.the-variants.{Absent, Present}
 use Rattle.packet_schema.specs.Shapes.{IsEndpoint, Begins}
-use Rattle.entry.specs.declared.Node.{Node}
-use Rattle.entry.specs.Nodes.{addressOf}
+use Rattle.node.specs.declared.Node.{Node}
+use Rattle.node.specs.Nodes.{addressOf}
 use Rattle.packet_span.specs.Parts.{bytesOf}
 use Rattle.packet_fields.specs.Spans.{padded, nodesOf}
 use Rattle.packet.specs.declared.Ping.{Ping}

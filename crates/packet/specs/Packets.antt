@@ -1,6 +1,6 @@
 -- The six packets of the discv4 wire protocol: what the data after the 98-byte head must be, and the fields that it has.
 use Prim.Native.Nat.{ℕ, _+_, _-_, _^_}
-use mathlib.Core.Bool.{Bool, true, false, cond}
+use mathlib.Core.Bool.{cond}
 use mathlib.Core.List.{List, [], _∷_}
 use lib.Dec.{eqb}
 use Rattle.octets.specs.Octets.{Bytes}
@@ -14,8 +14,12 @@ use Rattle.packet_span.specs.Parts.{bytesOf, moved}
 use Rattle.packet_fields.specs.Spans.{spanOf, itemSpan, uintItem, portItem, enrSeqItem}
 use Rattle.packet.specs.declared.PacketType.{PacketType}
 use Rattle.packet.specs.declared.PacketType.the-variants as type
+use Rattle.packet.specs.declared.TypeByte.{TypeByte}
+use Rattle.packet.specs.declared.TypeByte.the-variants.{Known, Unknown}
 use Rattle.packet.specs.declared.Packet.{Packet}
 use Rattle.packet.specs.declared.Packet.the-variants as packet
+use Rattle.packet.specs.declared.Parsed.{Parsed}
+use Rattle.packet.specs.declared.Parsed.the-variants as parsed
 use Rattle.packet.specs.declared.Sender.{Sender}
 use Rattle.packet.specs.declared.Recipient.{Recipient}
 use Rattle.packet.specs.declared.Ping.{Ping}
@@ -25,21 +29,13 @@ use Rattle.packet.specs.declared.Neighbors.{Neighbors}
 use Rattle.packet.specs.declared.EnrRequest.{EnrRequest}
 use Rattle.packet.specs.declared.EnrResponse.{EnrResponse}
 
-unfoldable pub typeOf : ℕ → PacketType
+unfoldable pub typeOf : ℕ → TypeByte
 typeOf b =
-    cond (eqb b 1) type.Ping
-    (cond (eqb b 2) type.Pong
-    (cond (eqb b 3) type.FindNode
-    (cond (eqb b 4) type.Neighbors (cond (eqb b 5) type.EnrRequest (cond (eqb b 6) type.EnrResponse type.Unknown)))))
-
-abbrev pub isKnown : PacketType → Bool
-isKnown type.Ping = true
-isKnown type.Pong = true
-isKnown type.FindNode = true
-isKnown type.Neighbors = true
-isKnown type.EnrRequest = true
-isKnown type.EnrResponse = true
-isKnown type.Unknown = false
+    cond (eqb b 1) (Known type.Ping)
+    (cond (eqb b 2) (Known type.Pong)
+    (cond (eqb b 3) (Known type.FindNode)
+    (cond (eqb b 4) (Known type.Neighbors)
+    (cond (eqb b 5) (Known type.EnrRequest) (cond (eqb b 6) (Known type.EnrResponse) Unknown)))))
 
 -- an integer of 64 bits
 abbrev pub anyUint : Kind
@@ -53,7 +49,6 @@ schemaOf type.FindNode = kind.Bytes 64 ∷ anyUint ∷ []
 schemaOf type.Neighbors = Nodes ∷ anyUint ∷ []
 schemaOf type.EnrRequest = anyUint ∷ []
 schemaOf type.EnrResponse = kind.Bytes 32 ∷ Record ∷ []
-schemaOf type.Unknown = []
 
 -- how many of them must be there: all but the enr-seq of Ping and Pong
 abbrev pub requiredOf : PacketType → ℕ
@@ -63,7 +58,6 @@ requiredOf type.FindNode = 2
 requiredOf type.Neighbors = 2
 requiredOf type.EnrRequest = 1
 requiredOf type.EnrResponse = 2
-requiredOf type.Unknown = 0
 
 -- the fields of the list's payload s, which begins at `base` of the datagram
 
@@ -120,20 +114,22 @@ packetOf type.FindNode base s = packet.FindNode (findNodeOf base s)
 packetOf type.Neighbors base s = packet.Neighbors (neighborsOf base s)
 packetOf type.EnrRequest base s = packet.EnrRequest (enrRequestOf s)
 packetOf type.EnrResponse base s = packet.EnrResponse (enrResponseOf base s)
-packetOf type.Unknown base s = packet.Refused 8
 
-abbrev pub answered : Verdict → Packet → Packet
-answered Good p = p
-answered Broken p = packet.Refused 9
-answered Wrong p = packet.Refused 10
+abbrev pub answered : Verdict → Packet → Parsed
+answered Good p = parsed.Packet p
+answered Broken p = parsed.Refused 9
+answered Wrong p = parsed.Refused 10
 
 -- data d that begins at `base` of the datagram, by its packet type
-unfoldable pub readAs : PacketType → ℕ → Bytes → Packet
+unfoldable pub readAs : PacketType → ℕ → Bytes → Parsed
 readAs t base d =
-    cond (isKnown t)
-    (answered (verdict (requiredOf t) (schemaOf t) d) (packetOf t (base + (spanOf 0 d) .start) (bytesOf d (spanOf 0 d))))
-    (packet.Refused 8)
+    answered (verdict (requiredOf t) (schemaOf t) d) (packetOf t (base + (spanOf 0 d) .start) (bytesOf d (spanOf 0 d)))
 
--- the same by the datagram's type byte
-abbrev pub readData : ℕ → ℕ → Bytes → Packet
-readData b base d = readAs (typeOf b) base d
+-- by what its type byte says
+abbrev pub readTyped : TypeByte → ℕ → Bytes → Parsed
+readTyped (Known t) base d = readAs t base d
+readTyped Unknown base d = parsed.Refused 8
+
+-- by its type byte
+abbrev pub readData : ℕ → ℕ → Bytes → Parsed
+readData b base d = readTyped (typeOf b) base d

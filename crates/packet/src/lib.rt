@@ -67,7 +67,6 @@ pub struct EnrResponse {
     pub record: Span,
 }
 
-// What reading finds: the packet, or the answer's number.
 pub enum Packet {
     Ping(Ping),
     Pong(Pong),
@@ -75,6 +74,11 @@ pub enum Packet {
     Neighbors(Neighbors),
     EnrRequest(EnrRequest),
     EnrResponse(EnrResponse),
+}
+
+// What reading finds: the packet, or the answer's number.
+pub enum Parsed {
+    Packet(Packet),
     Refused(u8),
 }
 
@@ -85,6 +89,11 @@ pub enum PacketType {
     Neighbors,
     EnrRequest,
     EnrResponse,
+}
+
+// What a type byte says.
+pub enum TypeByte {
+    Known(PacketType),
     Unknown,
 }
 
@@ -187,17 +196,17 @@ fn enr_response_fields(s: &[u8], base: usize) -> EnrResponse
     }
 }
 
-pub fn type_of(b: u8) -> PacketType
+pub fn type_of(b: u8) -> TypeByte
     ensures { λ r. ⌜ r ≡ typeOf b ⌝ }
 {
     match b {
-        1 => PacketType::Ping,
-        2 => PacketType::Pong,
-        3 => PacketType::FindNode,
-        4 => PacketType::Neighbors,
-        5 => PacketType::EnrRequest,
-        6 => PacketType::EnrResponse,
-        _ => PacketType::Unknown,
+        1 => TypeByte::Known(PacketType::Ping),
+        2 => TypeByte::Known(PacketType::Pong),
+        3 => TypeByte::Known(PacketType::FindNode),
+        4 => TypeByte::Known(PacketType::Neighbors),
+        5 => TypeByte::Known(PacketType::EnrRequest),
+        6 => TypeByte::Known(PacketType::EnrResponse),
+        _ => TypeByte::Unknown,
     }
 }
 
@@ -213,7 +222,6 @@ fn kinds_of(t: PacketType) -> [Kind; 5]
         PacketType::Neighbors => [Kind::Nodes, any, any, any, any],
         PacketType::EnrRequest => [any, any, any, any, any],
         PacketType::EnrResponse => [Kind::Bytes(32), Kind::Record, any, any, any],
-        PacketType::Unknown => [any, any, any, any, any],
     }
 }
 
@@ -227,7 +235,6 @@ fn count_of(t: PacketType) -> usize
         PacketType::Neighbors => 2,
         PacketType::EnrRequest => 1,
         PacketType::EnrResponse => 2,
-        PacketType::Unknown => 0,
     }
 }
 
@@ -241,7 +248,6 @@ fn required_of(t: PacketType) -> usize
         PacketType::Neighbors => 2,
         PacketType::EnrRequest => 1,
         PacketType::EnrResponse => 2,
-        PacketType::Unknown => 0,
     }
 }
 
@@ -256,7 +262,6 @@ fn packet_of(t: PacketType, s: &[u8], base: usize) -> Packet
         PacketType::Neighbors => Packet::Neighbors(neighbors_fields(s, base)),
         PacketType::EnrRequest => Packet::EnrRequest(enr_request_fields(s)),
         PacketType::EnrResponse => Packet::EnrResponse(enr_response_fields(s, base)),
-        PacketType::Unknown => Packet::Refused(8),
     }
 }
 
@@ -268,43 +273,28 @@ fn enr_request_fields(s: &[u8]) -> EnrRequest
     }
 }
 
-fn is_known(t: PacketType) -> bool
-    ensures { λ r. ⌜ r ≡ spec.isKnown t ⌝ }
-{
-    match t {
-        PacketType::Ping => true,
-        PacketType::Pong => true,
-        PacketType::FindNode => true,
-        PacketType::Neighbors => true,
-        PacketType::EnrRequest => true,
-        PacketType::EnrResponse => true,
-        PacketType::Unknown => false,
-    }
-}
-
 // Reads the data of a packet of type `t`, which begins at `base` of the datagram: the spans of its fields are the datagram's.
-fn read_as(t: PacketType, bytes: &[u8], base: usize) -> Packet
+fn read_as(t: PacketType, bytes: &[u8], base: usize) -> Parsed
     requires { ⌜ base + length (now bytes) < 2 ^ 64 ⌝ }
     ensures { λ r. ⌜ r ≡ readAs t base (now (bytes .entry)) ⌝ }
 {
-    if is_known(t) {
-        match packet_schema::check_data(bytes, kinds_of(t), count_of(t), required_of(t)) {
-            Verdict::Good => {
-                let span = item_payload(bytes, 0);
-                packet_of(t, bytes_of(bytes, span), base + span.start)
-            }
-            Verdict::Broken => Packet::Refused(9),
-            Verdict::Wrong => Packet::Refused(10),
+    match packet_schema::check_data(bytes, kinds_of(t), count_of(t), required_of(t)) {
+        Verdict::Good => {
+            let span = item_payload(bytes, 0);
+            Parsed::Packet(packet_of(t, bytes_of(bytes, span), base + span.start))
         }
-    } else {
-        Packet::Refused(8)
+        Verdict::Broken => Parsed::Refused(numbers::BROKEN_DATA),
+        Verdict::Wrong => Parsed::Refused(numbers::WRONG_FIELD),
     }
 }
 
 // The same by the datagram's type byte: the packet, or the answer's number 8, 9 or 10.
-pub fn read_data(kind: u8, bytes: &[u8], base: usize) -> Packet
+pub fn read_data(kind: u8, bytes: &[u8], base: usize) -> Parsed
     requires { ⌜ base + length (now bytes) < 2 ^ 64 ⌝ }
     ensures { λ r. ⌜ r ≡ readData kind base (now (bytes .entry)) ⌝ }
 {
-    read_as(type_of(kind), bytes, base)
+    match type_of(kind) {
+        TypeByte::Known(t) => read_as(t, bytes, base),
+        TypeByte::Unknown => Parsed::Refused(numbers::UNKNOWN_TYPE),
+    }
 }

@@ -7,6 +7,7 @@ use native.Mathlib.Omega.{arith}
 use borrow.Author.Tests.{eqb-true}
 use lib.Dec.{eqb}
 use lib.ListN.{length, length-append}
+use Rattle.node.specs.Nodes.{isAddress, isAddressSize}
 use Rattle.octets.specs.Octets.{Bytes}
 use Rattle.rlp.specs.Numbers.{uintBytes}
 use Rattle.rlp.specs.Encoding.{Item, string, list, header, isPlain, encode, encodes}
@@ -17,7 +18,7 @@ use Rattle.packet_model.specs.Items.{uint, endpoint, node}
 use Rattle.packet_model.specs.declared.EnrSeq.{EnrSeq}
 use Rattle.packet_model.specs.declared.EnrSeq.the-variants.{Absent, Present}
 use Rattle.lists.proofs.Laws.{or-elim}
-use Rattle.packet_bodies.specs.Parts.{isAddressSize, isAddress, fields, lastItems}
+use Rattle.packet_bodies.specs.Parts.{endpointItems, lastItems}
 
 -- a list's items behind a header that says their size
 pub framed : (size : ℕ) (p : Bytes) → size ≡ length p → header 0xc0 size ++ p ≡ encode (list p)
@@ -68,33 +69,33 @@ address-size n h =
 
 -- the items of an endpoint, by the sizes of its ports
 module _ (a : Bytes) (u t : ℕ) (ok : isAddress a ≡ true) where
-  pub fields-size : length (encodes (fields a u t)) ≡ 1 + length a + length (encode (uint u)) + length (encode (uint t))
+  pub fields-size : length (encodes (endpointItems a u t)) ≡ 1 + length a + length (encode (uint u)) + length (encode (uint t))
   fields-size =
       let h = address-size (length a) ok in
-      omega (arith, total-size (fields a u t), string-short a (h .0) (omega (arith, h .1)))
+      omega (arith, total-size (endpointItems a u t), string-short a (h .0) (omega (arith, h .1)))
 
   module _ (hu : u < 256 ^ 2) (ht : t < 256 ^ 2) where
-    pub fields-bound : length (encodes (fields a u t)) ≤ 23
+    pub fields-bound : length (encodes (endpointItems a u t)) ≤ 23
     fields-bound = omega (arith, fields-size, address-size (length a) ok, uint-width 2 u (omega arith) hu, uint-width 2 t (omega arith) ht)
 
-    pub endpoint-size : length (encode (endpoint a u t)) ≡ 1 + length (encodes (fields a u t))
+    pub endpoint-size : length (encode (endpoint a u t)) ≡ 1 + length (encodes (endpointItems a u t))
     endpoint-size =
-        let p : Bytes = encodes (fields a u t) in
+        let p : Bytes = encodes (endpointItems a u t) in
         omega (arith, ap length (framed (length p) p refl), length-append (header 0xc0 (length p)) p, ap length (header-short 0xc0 (length p) (omega (arith, fields-bound))))
 
 -- the items of a node
 abbrev pub keyed : Bytes → ℕ → ℕ → Bytes → List Item
-keyed a u t key = fields a u t ++ (string key ∷ [])
+keyed a u t key = endpointItems a u t ++ (string key ∷ [])
 
 -- a node: its key is 64 bytes
 module _ (a : Bytes) (u t : ℕ) (key : Bytes) (ok : isAddress a ≡ true) (k : length key ≡ 64) where
   pub key-size : length (encode (string key)) ≡ 66
   key-size = omega (arith, string-long key (omega arith) (omega arith))
 
-  pub keyed-size : length (encodes (keyed a u t key)) ≡ length (encodes (fields a u t)) + 66
-  keyed-size = omega (arith, total-size (keyed a u t key), total-size (fields a u t), key-size)
+  pub keyed-size : length (encodes (keyed a u t key)) ≡ length (encodes (endpointItems a u t)) + 66
+  keyed-size = omega (arith, total-size (keyed a u t key), total-size (endpointItems a u t), key-size)
 
-  pub node-size : u < 256 ^ 2 → t < 256 ^ 2 → length (encode (node a u t key)) ≡ 68 + length (encodes (fields a u t))
+  pub node-size : u < 256 ^ 2 → t < 256 ^ 2 → length (encode (node a u t key)) ≡ 68 + length (encodes (endpointItems a u t))
   node-size hu ht =
       let p : Bytes = encodes (keyed a u t key) in
       let b = fields-bound a u t ok hu ht in

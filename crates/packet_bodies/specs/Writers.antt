@@ -4,13 +4,14 @@ use mathlib.Core.Bool.{Bool, false, _&&_}
 use mathlib.Core.List.{[]}
 use lib.Dec.{eqb, leb}
 use lib.ListN.{length, drop}
+use Rattle.node.specs.Nodes.{isAddress}
 use Rattle.octets.specs.Octets.{Bytes}
 use Rattle.rlp.specs.Reading.{head}
 use Rattle.rlp.specs.declared.Header.{Header}
 use Rattle.rlp.specs.declared.Header.the-variants as rlp
 use Rattle.packet_model.specs.Items.{endpoint, pingItems, pongItems, findNodeItems, neighborsItems, enrRequestItems, enrResponseItems, enrSeqItems}
 use Rattle.packet_model.specs.declared.EnrSeq.{EnrSeq}
-use Rattle.packet_bodies.specs.Parts.{isAddress, body, nodeItems}
+use Rattle.packet_bodies.specs.Parts.{body, nodeItems}
 use Rattle.packet_bodies.specs.declared.NodeList.{NodeList}
 
 -- 1 Ping: version 4, the third item of `to` 0

@@ -4,11 +4,12 @@ ghost use mathlib.Core.Bool.{true};
 ghost use mathlib.Core.List.{_∷_};
 ghost use Prim.Native.Nat.{_+_, _≤_, _<_, _^_};
 ghost use lib.ListN.{length};
+ghost use Rattle.node.specs.Nodes.{isAddress, isAddressSize};
 ghost use Rattle.rlp.specs.Encoding.{header, encode, encodes};
 ghost use Rattle.octets.specs.Octets.{store};
 ghost use Rattle.packet_model.specs.Items.{endpoint, node, nodeItem};
-ghost use Rattle.packet_bodies.specs.Parts.{isAddress, isAddressSize, fields, lastItems, nodeItems, writableNodes};
-use entry::Node;
+ghost use Rattle.packet_bodies.specs.Parts.{endpointItems, lastItems, nodeItems, writableNodes};
+use node::Node;
 use packet_model::EnrSeq;
 
 // The third item of `to` in a Ping and a Pong, which is not a field.
@@ -18,13 +19,6 @@ pub const TO_TCP: u16 = 0;
 pub struct NodeList {
     pub len: usize,
     pub nodes: [Node; 16],
-}
-
-// Whether an IP address has this many bytes.
-pub fn is_address_size(n: usize) -> bool
-    ensures { λ r. ⌜ r ≡ isAddressSize n ⌝ }
-{
-    if n == 4 { true } else { n == 16 }
 }
 
 // The size of a body whose list has `size` bytes of items.
@@ -48,16 +42,16 @@ pub fn put_start(buf: &mut [u8], kind: u8, size: usize) -> usize
 // The size of the items of an endpoint.
 fn fields_size(address: &[u8], udp: u16, tcp: u16) -> usize
     requires { ⌜ isAddress (now address) ≡ true ⌝ }
-    ensures { λ r. ⌜ (r ≡ length (encodes (fields (now (address .entry)) udp tcp))) × (r ≤ 23) ⌝ }
+    ensures { λ r. ⌜ (r ≡ length (encodes (endpointItems (now (address .entry)) udp tcp))) × (r ≤ 23) ⌝ }
 {
     1 + address.len() + rlp_write::uint_size(udp as u64) + rlp_write::uint_size(tcp as u64)
 }
 
 // Writes the items of an endpoint.
 fn put_fields(buf: &mut [u8], at: usize, address: &[u8], udp: u16, tcp: u16) -> usize
-    requires { ⌜ at + length (encodes (fields (now address) udp tcp)) ≤ length (now buf) ⌝ }
-    ensures next { λ r. ⌜ r ≡ at + length (encodes (fields (now (address .entry)) udp tcp)) ⌝ }
-    ensures bytes { λ _. ⌜ now (buf .exit) ≡ store (now (buf .entry)) at (encodes (fields (now (address .entry)) udp tcp)) ⌝ }
+    requires { ⌜ at + length (encodes (endpointItems (now address) udp tcp)) ≤ length (now buf) ⌝ }
+    ensures next { λ r. ⌜ r ≡ at + length (encodes (endpointItems (now (address .entry)) udp tcp)) ⌝ }
+    ensures bytes { λ _. ⌜ now (buf .exit) ≡ store (now (buf .entry)) at (encodes (endpointItems (now (address .entry)) udp tcp)) ⌝ }
 {
     let a = rlp_write::write_string(buf, at, address);
     let b = rlp_write::write_uint(buf, a, udp as u64);
@@ -155,7 +149,7 @@ pub fn nodes_writable(list: NodeList) -> bool
     while i < n {
         let node = list.nodes[i];
         let endpoint = node.endpoint;
-        if is_address_size(endpoint.len as usize) {
+        if node::is_address_size(endpoint.len as usize) {
             i += 1;
         } else {
             return false;

@@ -3,16 +3,17 @@
 ghost use mathlib.Core.Path.{_≡_};
 ghost use Rattle.packet_datagram.specs.Datagram.{packetIn, recordOf, readAt};
 ghost use Rattle.packet_datagram.specs.Datagram as spec;
-use entry::UnixSeconds;
+use node::UnixSeconds;
 use packet::Packet;
+use packet::Parsed;
 use packet_span::Span;
 
 // The packet by its type and data, or answer 8, 9 or 10. The spans of its fields are the datagram's.
-pub fn packet_in(datagram: &[u8]) -> Packet
+pub fn packet_in(datagram: &[u8]) -> Parsed
     ensures { λ r. ⌜ r ≡ packetIn (now (datagram .entry)) ⌝ }
 {
     if datagram.len() < 98 {
-        return Packet::Refused(8);
+        return Parsed::Refused(numbers::UNKNOWN_TYPE);
     }
     packet::read_data(datagram[97], &datagram[98..], 98)
 }
@@ -35,19 +36,21 @@ pub fn is_expired(packet: Packet, unix: UnixSeconds) -> bool
         Packet::Neighbors(p) => expired(p.expiration, unix),
         Packet::EnrRequest(p) => expired(p.expiration, unix),
         Packet::EnrResponse(_) => false,
-        Packet::Refused(_) => false,
     }
 }
 
 // The packet, or answer 8, 9, 10 or 11.
-pub fn read(datagram: &[u8], unix: UnixSeconds) -> Packet
+pub fn read(datagram: &[u8], unix: UnixSeconds) -> Parsed
     ensures { λ r. ⌜ r ≡ readAt (now (datagram .entry)) unix ⌝ }
 {
-    let packet = packet_in(datagram);
-    if is_expired(packet, unix) {
-        Packet::Refused(11)
-    } else {
-        packet
+    match packet_in(datagram) {
+        Parsed::Packet(packet) => {
+            if is_expired(packet, unix) {
+                return Parsed::Refused(numbers::EXPIRED);
+            }
+            Parsed::Packet(packet)
+        }
+        Parsed::Refused(n) => Parsed::Refused(n),
     }
 }
 
@@ -61,7 +64,15 @@ fn record_span(packet: Packet) -> Span
         Packet::FindNode(_) => Span { start: 0, len: 0 },
         Packet::Neighbors(_) => Span { start: 0, len: 0 },
         Packet::EnrRequest(_) => Span { start: 0, len: 0 },
-        Packet::Refused(_) => Span { start: 0, len: 0 },
+    }
+}
+
+fn span_in(parsed: Parsed) -> Span
+    ensures { λ r. ⌜ r ≡ spec.spanIn parsed ⌝ }
+{
+    match parsed {
+        Parsed::Packet(packet) => record_span(packet),
+        Parsed::Refused(_) => Span { start: 0, len: 0 },
     }
 }
 
@@ -69,5 +80,5 @@ fn record_span(packet: Packet) -> Span
 pub fn record_part(datagram: &[u8]) -> &[u8]
     ensures { λ r. ⌜ now r ≡ recordOf (now (datagram .entry)) ⌝ }
 {
-    packet_span::bytes_of(datagram, record_span(packet_in(datagram)))
+    packet_span::bytes_of(datagram, span_in(packet_in(datagram)))
 }

@@ -12,7 +12,7 @@ use Rattle.rlp.specs.declared.Header.the-variants as read
 use Rattle.rlp.specs.declared.Uint as rlp-uint
 use Rattle.rlp.specs.declared.Uint.the-variants as uint
 use Rattle.packet_schema.specs.Payload.{itemsOf}
-use Rattle.entry.specs.declared.Node.{Node}
+use Rattle.node.specs.declared.Node.{Node}
 use Rattle.packet_model.specs.declared.EnrSeq.{EnrSeq}
 use Rattle.packet_model.specs.declared.EnrSeq.the-variants.{Absent, Present}
 use Rattle.packet_span.specs.declared.Span.{Span}

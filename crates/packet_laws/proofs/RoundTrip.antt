@@ -7,8 +7,8 @@ use native.Mathlib.Omega.{arith}
 use borrow.Author.Tests.{eqb-true, eq-eqb, le-leb}
 use lib.Dec.{eqb}
 use lib.ListN.{length, take, drop, getD, length-append}
-use Rattle.entry.specs.declared.Node.{Node}
-use Rattle.entry.specs.Nodes.{addressOf}
+use Rattle.node.specs.declared.Node.{Node}
+use Rattle.node.specs.Nodes.{addressOf}
 use lib.Seq.{take-at, drop-at, drop-append-add, getD-append-add}
 use Rattle.octets.specs.Octets.{Bytes, Slice, part}
 use Rattle.octets.proofs.Laws.{same-refl}
@@ -19,7 +19,7 @@ use Rattle.packet_model.specs.Items.{dataOf, endpoint, pingItems, pongItems, fi
 use Rattle.packet_model.specs.declared.EnrSeq.{EnrSeq}
 use Rattle.packet_model.specs.declared.EnrSeq.the-variants.{Absent, Present}
 use Rattle.packet_schema.specs.Shapes.{Begins}
-use Rattle.packet.specs.Packets.{typeOf, readAs}
+use Rattle.packet.specs.Packets.{typeOf, readData}
 use Rattle.packet.specs.declared.PacketType.the-variants as type
 use Rattle.packet.specs.Accepted.{trailing, SeqFits, NodesGood, PingFields, PongFields, FindNodeFields, NeighborsFields, EnrRequestFields, EnrResponseFields}
 use Rattle.packet.proofs.Inversion.{ping-accepted, pong-accepted, find-node-accepted, enr-request-accepted, enr-response-accepted}
@@ -93,7 +93,7 @@ module _ (s : Bytes) (kind : ℕ) (data′ : Bytes) (sized : length s ≡ 65) wh
   pub sized-is : length data′ ≤ 1182 → isSized g ≡ true
   sized-is h = rw (le-leb 98 (length g) long-enough, le-leb (length g) 1280 (omega (arith, g-length)))
 
-  pub packet-is : packetIn g ≡ readAs (typeOf kind) 98 data′
+  pub packet-is : packetIn g ≡ readData kind 98 data′
   unfolding packetIn
   packet-is = rw (type-is, data-is)
 
@@ -108,9 +108,9 @@ module _ (s : Bytes) (sized : length s ≡ 65) where
   begins : (kind : ℕ) (is : List Item) → Begins (drop 98 (datagram s (body kind is))) is
   begins kind is = record { rest = []; begins = data-is s kind (dataOf is) sized ∙ sym (append-nil (dataOf is)) }
 
-  -- what is read is the packet that `readAs` finds in the data
-  packet-at : (kind : ℕ) (is : List Item) → packetIn (datagram s (body kind is)) ≡ readAs (typeOf kind) 98 (drop 98 (datagram s (body kind is)))
-  packet-at kind is = packet-is s kind (dataOf is) sized ∙ ap (readAs (typeOf kind) 98) (sym (data-is s kind (dataOf is) sized))
+  -- what is read is what `readData` finds in the data
+  packet-at : (kind : ℕ) (is : List Item) → packetIn (datagram s (body kind is)) ≡ readData kind 98 (drop 98 (datagram s (body kind is)))
+  packet-at kind is = packet-is s kind (dataOf is) sized ∙ ap (readData kind 98) (sym (data-is s kind (dataOf is) sized))
 
   -- a packet with these fields reads back as them
   abbrev ReadsBack : Fields → Type 0

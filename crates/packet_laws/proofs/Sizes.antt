@@ -8,15 +8,16 @@ use native.Mathlib.Decide.{decLt}
 use lib.Dec.{eqb}
 use borrow.Author.Tests.{eqb-true, eq-eqb, le-leb}
 use lib.ListN.{length, take, length-append, length-take}
+use Rattle.node.specs.Nodes.{isAddress, isAddressSize}
 use Rattle.octets.specs.Octets.{Bytes, Slice}
-use Rattle.entry.specs.declared.Node.{Node}
+use Rattle.node.specs.declared.Node.{Node}
 use Rattle.rlp.specs.Encoding.{Item, list, header, encode, encodes}
 use Rattle.rlp.proofs.Numbers.{length-uint, width-more, width-least}
 use Rattle.rlp.proofs.Writing.{header-short, header-long, encode-list, uint-size-small, uint-size-large}
 use Rattle.packet_model.specs.Items.{uint, endpoint, node, pingItems, pongItems, findNodeItems, neighborsItems, enrRequestItems, enrResponseItems, enrSeqItems, nodeItem}
 use Rattle.packet_model.specs.declared.EnrSeq.{EnrSeq}
 use Rattle.packet_model.specs.declared.EnrSeq.the-variants.{Absent, Present}
-use Rattle.packet_bodies.specs.Parts.{isAddress, isAddressSize, body, nodeItems, nodesOf, haveAddresses, writableNodes}
+use Rattle.packet_bodies.specs.Parts.{body, nodeItems, nodesIn, haveAddresses, writableNodes}
 use Rattle.packet_bodies.specs.declared.NodeList.{NodeList}
 use Rattle.lists.proofs.Laws.{and-left, and-right}
 use Rattle.packet_bodies.proofs.Sizes.{total-size, uint-bytes, string-short, string-long, uint-width, address-size, fields-size, fields-bound, endpoint-size, node-size}
@@ -116,8 +117,8 @@ neighbors-bound ns x h hx =
     let b : length (encodes items) ≤ 1104 = omega (arith, total-size items, list-length (encodes ns), header-width 0xc0 2 (length (encodes ns)) (omega arith), uint-width 8 x (omega arith) hx) in
     omega (arith, body-bound 2 4 items (omega arith))
 
-pub listed-bound : (l : NodeList) → writableNodes l ≡ true → NodesFit (nodesOf l) → length (encodes (nodeItems l)) ≤ 1092
-listed-bound l ok f = omega (arith, nodes-bound (nodesOf l) f (addresses l ok), few l ok, length-take (l .len) (l .nodes))
+pub listed-bound : (l : NodeList) → writableNodes l ≡ true → NodesFit (nodesIn l) → length (encodes (nodeItems l)) ≤ 1092
+listed-bound l ok f = omega (arith, nodes-bound (nodesIn l) f (addresses l ok), few l ok, length-take (l .len) (l .nodes))
 
 pub enr-request-bound : (x : ℕ) → x < 2 ^ 64 → length (body 5 (enrRequestItems x [])) ≤ 11
 enr-request-bound x hx =

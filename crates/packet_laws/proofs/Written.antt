@@ -11,15 +11,15 @@ use lib.ListN.{length, take, drop, replicate, length-map, length-take}
 use lib.Seq.{take-append-seam}
 use Rattle.octets.specs.Octets.{Bytes}
 use Rattle.octets.proofs.Laws.{store-eq}
-use Rattle.entry.specs.declared.Node.{Node}
-use Rattle.entry.specs.Nodes.{addressOf}
+use Rattle.node.specs.declared.Node.{Node}
+use Rattle.node.specs.Nodes.{addressOf, isAddress, isAddressSize}
 use Rattle.rlp.specs.Encoding.{Item}
 use Rattle.packet_model.specs.Items.{node, neighborsItems, nodeItem}
 use Rattle.packet_model.specs.declared.EnrSeq.{EnrSeq}
 use Rattle.packet_model.specs.declared.EnrSeq.the-variants.{Absent, Present}
 use Rattle.packet_fields.specs.Spans.{padded}
 use Rattle.packet.specs.Accepted.{SeqFits, NodeGood, NodesGood}
-use Rattle.packet_bodies.specs.Parts.{isAddress, isAddressSize, body, nodesOf, haveAddresses}
+use Rattle.packet_bodies.specs.Parts.{body, nodesIn, haveAddresses}
 use Rattle.lists.proofs.Laws.{and-left, and-right}
 use Rattle.packet_bodies.proofs.Sizes.{address-size}
 use Rattle.packet_bodies.proofs.Nodes.{few, addresses, address-length}
@@ -122,7 +122,7 @@ written-fields (written.findNode target x ok hx) =
       is = refl;
     }
 written-fields (written.neighbors l x ok f hx) =
-    let ns : List Node = nodesOf l in
+    let ns : List Node = nodesIn l in
     record {
       fields = fields.neighbors (record { nodes = map padNode ns; expiration = x });
       can = record { few = omega (arith, length-map ns padNode, length-take (l .len) (l .nodes), few l ok); nodes = all-good ns f (addresses l ok); expiration = hx };

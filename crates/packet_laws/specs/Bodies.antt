@@ -5,10 +5,10 @@ use mathlib.Core.Bool.{true}
 use mathlib.Core.List.{List, [], _∷_}
 use lib.ListN.{length}
 use Rattle.octets.specs.Octets.{Bytes, Slice}
-use Rattle.entry.specs.declared.Node.{Node}
+use Rattle.node.specs.declared.Node.{Node}
 use Rattle.packet_model.specs.declared.EnrSeq.{EnrSeq}
 use Rattle.packet_model.specs.declared.EnrSeq.the-variants.{Absent, Present}
-use Rattle.packet_bodies.specs.Parts.{nodesOf, writableNodes}
+use Rattle.packet_bodies.specs.Parts.{nodesIn, writableNodes}
 use Rattle.packet_bodies.specs.declared.NodeList.{NodeList}
 use Rattle.packet_bodies.specs.Writers.{canPing, pingBody, canPong, pongBody, canFindNode, findNodeBody, neighborsBody, enrRequestBody, canEnrResponse, enrResponseBody}
 
@@ -34,6 +34,6 @@ pub data WrittenBody : Bytes → Type 0 where
   pong : (to : Bytes) (toUdp : ℕ) (hash : Bytes) (x : ℕ) (e : EnrSeq)
       → canPong to hash ≡ true → toUdp < 2 ^ 16 → x < 2 ^ 64 → EnrFits e → WrittenBody (pongBody to toUdp hash x e)
   findNode : (target : Bytes) (x : ℕ) → canFindNode target ≡ true → x < 2 ^ 64 → WrittenBody (findNodeBody target x)
-  neighbors : (nodes : NodeList) (x : ℕ) → writableNodes nodes ≡ true → NodesFit (nodesOf nodes) → x < 2 ^ 64 → WrittenBody (neighborsBody nodes x)
+  neighbors : (nodes : NodeList) (x : ℕ) → writableNodes nodes ≡ true → NodesFit (nodesIn nodes) → x < 2 ^ 64 → WrittenBody (neighborsBody nodes x)
   enrRequest : (x : ℕ) → x < 2 ^ 64 → WrittenBody (enrRequestBody x)
   enrResponse : (hash r : Bytes) → Slice r → canEnrResponse hash r ≡ true → WrittenBody (enrResponseBody hash r)

@@ -9,6 +9,8 @@ use Rattle.packet_model.specs.Items.{neighborsItems, nodeItem}
 use Rattle.packet_schema.specs.Shapes.{IsEndpoint}
 use Rattle.packet.specs.declared.Packet.{Packet}
 use Rattle.packet.specs.declared.Packet.the-variants as packet
+use Rattle.packet.specs.declared.Parsed.{Parsed}
+use Rattle.packet.specs.declared.Parsed.the-variants as parsed
 use Rattle.packet.specs.Accepted.{SeqFits, PingFields, pingFields, PongFields, pongFields, FindNodeFields, findNodeFields, NeighborsFields, neighborsFields, NodesGood, EnrRequestFields, enrRequestFields, EnrResponseFields, enrResponseFields}
 use Rattle.packet_envelope.specs.Envelope.{isSized, hashMatches, signatureOf}
 use Rattle.packet_datagram.specs.Datagram.{packetIn}
@@ -26,14 +28,17 @@ pub data Fields : Type 0 where
   none : Fields
 
 -- the fields of a packet that was read from the datagram g
-abbrev pub fieldsOf : Bytes → Packet → Fields
-fieldsOf g (packet.Ping p) = ping (pingFields g p)
-fieldsOf g (packet.Pong p) = pong (pongFields g p)
-fieldsOf g (packet.FindNode p) = findNode (findNodeFields g p)
-fieldsOf g (packet.Neighbors p) = neighbors (neighborsFields g p)
-fieldsOf g (packet.EnrRequest p) = enrRequest (enrRequestFields p)
-fieldsOf g (packet.EnrResponse p) = enrResponse (enrResponseFields g p)
-fieldsOf g (packet.Refused number) = none
+abbrev pub packetFields : Bytes → Packet → Fields
+packetFields g (packet.Ping p) = ping (pingFields g p)
+packetFields g (packet.Pong p) = pong (pongFields g p)
+packetFields g (packet.FindNode p) = findNode (findNodeFields g p)
+packetFields g (packet.Neighbors p) = neighbors (neighborsFields g p)
+packetFields g (packet.EnrRequest p) = enrRequest (enrRequestFields p)
+packetFields g (packet.EnrResponse p) = enrResponse (enrResponseFields g p)
+
+abbrev pub fieldsOf : Bytes → Parsed → Fields
+fieldsOf g (parsed.Packet p) = packetFields g p
+fieldsOf g (parsed.Refused number) = none
 
 -- what the writers write of these fields
 abbrev pub bodyOf : Fields → Bytes

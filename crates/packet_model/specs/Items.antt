@@ -5,8 +5,8 @@ use mathlib.Core.List.{List, [], _∷_, map}
 use Rattle.octets.specs.Octets.{Bytes}
 use Rattle.rlp.specs.Numbers.{uintBytes}
 use Rattle.rlp.specs.Encoding.{Item, string, list, encode, encodes}
-use Rattle.entry.specs.declared.Node.{Node}
-use Rattle.entry.specs.Nodes.{addressOf}
+use Rattle.node.specs.declared.Node.{Node}
+use Rattle.node.specs.Nodes.{addressOf}
 use Rattle.packet_model.specs.declared.EnrSeq.{EnrSeq}
 use Rattle.packet_model.specs.declared.EnrSeq.the-variants.{Absent, Present}
 

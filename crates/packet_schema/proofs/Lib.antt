@@ -1,4 +1,4 @@
-pub mod SchemaItemsTurns
+pub mod ItemTurns
 pub mod Payload
 pub mod Turns
 pub mod Shapes

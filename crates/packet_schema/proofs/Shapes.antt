@@ -15,7 +15,7 @@ use Rattle.rlp.specs.declared.Uint as rlp-uint
 use Rattle.rlp.specs.declared.Uint.the-variants as value
 use Rattle.packet_model.specs.Items.{uint, endpoint, node}
 use Rattle.packet_schema.specs.Payload.{itemsOf}
-use Rattle.packet_schema.specs.Kinds.{worst, goodIf, atMost, isLeaf, leaves, tuple, isRecord}
+use Rattle.packet_schema.specs.Kinds.{worst, goodIf, atMost, isLeaf, leaves, tuple, isRecordItem}
 use Rattle.packet_schema.specs.Kinds as schema
 use Rattle.packet_schema.specs.Schema.{eachNode, nodes, field, fields}
 use Rattle.packet_schema.specs.Shapes.{IsEndpoint, IsUint, IsString, IsAddressItem, IsEndpointItem, IsNode, AllNodes, IsNodes, IsRecord, Shape, Shapes}
@@ -171,7 +171,7 @@ nodes-shape (list p) sl e =
     let w = whole-good (whole p) _ e in
     record { nodes = itemsOf p; is = listed p (itemsOf p) sl (w .0) refl; all = all-nodes (itemsOf p) (slices-items p sl) (w .1) }
 
-record-shape : (i : Item) → isRecord i ≡ true → IsRecord i
+record-shape : (i : Item) → isRecordItem i ≡ true → IsRecord i
 record-shape (string s) e = absurd (false≢true e)
 record-shape (list p) e = record { content = p; is = refl; sized = leb-true (length (encode (list p))) 300 e }
 
@@ -216,7 +216,7 @@ shape-field Endpoint i l s h =
 shape-field Nodes i l s h =
     let small : Small (h .nodes) = subst (λ (x : Item). length (payloadOf x) < 2 ^ 64) (h .is) s in
     ap nodes (h .is) ∙ rw (whole-encodes (h .nodes) small, items-encodes (h .nodes) small) (all-good (h .nodes) small (h .all))
-shape-field Record i l s h = ap (λ (x : Item). goodIf (isRecord x)) (h .is) ∙ ap goodIf (le-leb (length (encode (list (h .content)))) 300 (h .sized))
+shape-field Record i l s h = ap (λ (x : Item). goodIf (isRecordItem x)) (h .is) ∙ ap goodIf (le-leb (length (encode (list (h .content)))) 300 (h .sized))
 
 -- ---- the fields of a packet
 

@@ -19,7 +19,7 @@ use Rattle.packet_schema.specs.Kinds.{worst, goodIf, tuple, node}
 use Rattle.packet_schema.specs.declared.Kind.{Kind}
 use Rattle.packet_schema.specs.declared.Verdict.{Verdict}
 use Rattle.packet_schema.specs.declared.Verdict.the-variants.{Good, Broken, Wrong}
-use Rattle.packet_schema.proofs.SchemaItemsTurns.{kinds-end, kinds-next, left, taken, after, left-next, left-none}
+use Rattle.packet_schema.proofs.ItemTurns.{kinds-end, kinds-next, left, taken, after, left-next, left-none}
 use Rattle.packet_schema.specs.Schema.{eachNode, field, fields, verdict}
 
 -- the verdicts of three, in either grouping

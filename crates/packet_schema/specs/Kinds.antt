@@ -4,6 +4,7 @@ use mathlib.Core.Bool.{Bool, true, false, cond, _&&_, _||_}
 use mathlib.Core.List.{List, [], _∷_}
 use lib.ListN.{length}
 use lib.Dec.{leb, eqb}
+use Rattle.node.specs.Nodes.{isAddress}
 use Rattle.octets.specs.Octets as octets
 use Rattle.rlp.specs.Encoding.{Item, string, list, encode}
 use Rattle.rlp.specs.Reading.{whole, uintOf}
@@ -30,10 +31,6 @@ goodIf false = Wrong
 abbrev pub atMost : rlp-uint.Uint → ℕ → Bool
 atMost (uint.Value v) max = leb v max
 atMost uint.NotAnInteger max = false
-
--- an address has 4 or 16 bytes
-abbrev pub isAddress : octets.Bytes → Bool
-isAddress s = eqb (length s) 4 || eqb (length s) 16
 
 -- an item is the string that kind asks
 abbrev pub isLeaf : Kind → Item → Bool
@@ -66,6 +63,6 @@ abbrev pub node : List Kind
 node = Address ∷ Uint 65535 ∷ Uint 65535 ∷ Bytes 64 ∷ []
 
 -- an item is a record: a list of at most 300 bytes with its header, whatever is inside
-abbrev pub isRecord : Item → Bool
-isRecord (string s) = false
-isRecord (list p) = leb (length (encode (list p))) 300
+abbrev pub isRecordItem : Item → Bool
+isRecordItem (string s) = false
+isRecordItem (list p) = leb (length (encode (list p))) 300

@@ -10,7 +10,7 @@ use Rattle.rlp.specs.Reading.{head, whole}
 use Rattle.rlp.specs.declared.Header.{Header}
 use Rattle.rlp.specs.declared.Header.the-variants as read
 use Rattle.packet_schema.specs.Payload.{itemsOf}
-use Rattle.packet_schema.specs.Kinds.{worst, goodIf, isLeaf, tuple, endpoint, node, isRecord}
+use Rattle.packet_schema.specs.Kinds.{worst, goodIf, isLeaf, tuple, endpoint, node, isRecordItem}
 use Rattle.packet_schema.specs.declared.Kind.{Kind}
 use Rattle.packet_schema.specs.declared.Kind.the-variants.{Uint, Bytes, Address, Endpoint, Nodes, Record}
 use Rattle.packet_schema.specs.declared.Verdict.{Verdict}
@@ -32,7 +32,7 @@ field (Bytes n) i = goodIf (isLeaf (Bytes n) i)
 field Address i = goodIf (isLeaf Address i)
 field Endpoint i = tuple endpoint i
 field Nodes i = nodes i
-field Record i = goodIf (isRecord i)
+field Record i = goodIf (isRecordItem i)
 
 -- the items are what kinds ask, in order; the first `required` must be there, and items after those of the kinds are ignored
 abbrev pub fields : ℕ → List Kind → List Item → Verdict

@@ -4,10 +4,10 @@ use mathlib.Core.Path.{_≡_}
 use mathlib.Core.Bool.{true}
 use mathlib.Core.List.{List, [], _∷_, _++_}
 use lib.ListN.{length}
+use Rattle.node.specs.Nodes.{isAddress}
 use Rattle.octets.specs.Octets as octets
 use Rattle.rlp.specs.Encoding.{Item, string, list, encode, encodes}
 use Rattle.packet_model.specs.Items.{dataOf, uint, endpoint, node}
-use Rattle.packet_schema.specs.Kinds.{isAddress}
 use Rattle.packet_schema.specs.declared.Kind.{Kind}
 use Rattle.packet_schema.specs.declared.Kind.the-variants.{Uint, Bytes, Address, Endpoint, Nodes, Record}
 

@@ -72,7 +72,7 @@ pub fn is_leaf(kind: Kind, list: bool, p: &[u8]) -> bool
             Uint::NotAnInteger => false,
         },
         Kind::Bytes(n) => p.len() == n,
-        Kind::Address => { if p.len() == 4 { true } else { p.len() == 16 } }
+        Kind::Address => node::is_address_size(p.len()),
         Kind::Endpoint => false,
         Kind::Nodes => false,
         Kind::Record => false,
@@ -148,7 +148,7 @@ pub fn node(list: bool, p: &[u8]) -> Verdict
 }
 
 pub fn is_record(list: bool, p: &[u8]) -> bool
-    ensures { λ r. ⌜ r ≡ spec.isRecord (itemOf list (now (p .entry))) ⌝ }
+    ensures { λ r. ⌜ r ≡ spec.isRecordItem (itemOf list (now (p .entry))) ⌝ }
 {
     if list {
         rlp::header_size(p.len()) + p.len() <= 300

@@ -1,10 +1,10 @@
-// A part of a datagram by its place.
+// A part of a byte string by its place: of a datagram, or of a log's line.
 ghost use mathlib.Core.Path.{_≡_};
 ghost use Prim.Native.Nat.{_+_, _<_, _^_};
 ghost use Rattle.packet_span.specs.Parts.{bytesOf};
 ghost use Rattle.packet_span.specs.Parts as spec;
 
-// Bytes of a datagram.
+// `len` bytes from `start` on.
 pub struct Span {
     pub start: usize,
     pub len: usize,

@@ -12,7 +12,7 @@ use Rattle.table_model.specs.Layout.{countOf, offsetOf, bucketAt, bucketsOf}
 use Rattle.table_model.specs.Sound.{tableSound}
 use Rattle.table_model.proofs.Table.{count-read}
 use Rattle.printout.specs.TableRow.{entryTotal, replacementTotal}
-use Rattle.printout.proofs.PrintoutHeadRows.{next-bucket}
+use Rattle.printout.proofs.HeadRows.{next-bucket}
 use Rattle.printout.proofs.Slots.{bucket-is}
 
 module _ (s : Bytes) where

@@ -16,7 +16,7 @@ use Rattle.entry.specs.declared.Entry.{Entry}
 use Rattle.bucket_model.specs.Contents.{Contents, noContents}
 use Rattle.bucket_model.proofs.Sound.{EntrySound}
 use Rattle.bucket_model.proofs.Every.{Every}
-use Rattle.table_model.specs.Layout.{ownOf, clockOf, countOf, numberOf, bucketsOf}
+use Rattle.table_model.specs.Layout.{ownOf, clockOf, countOf, numberAt, bucketsOf}
 use Rattle.table_model.specs.Sound.{tableSound}
 use Rattle.table_model.proofs.Sound.{SoundBucket, sound-is-table}
 use Rattle.table_model.proofs.Table.{count-read}
@@ -56,7 +56,7 @@ pub printed-distance : (s : Bytes) → IsBytes s → tableSound s ≡ true
 printed-distance s bs h =
     numbered (λ number b. Every (Logarithm (ownOf s) number) b) (256 - countOf s) (bucketsOf s)
     (λ j k.
-    let n : ℕ = numberOf (countOf s) j in
+    let n : ℕ = numberAt (countOf s) j in
     let b : Contents = getD (bucketsOf s) j noContents in
     let held : SoundBucket (home (ownOf s) n) (clockOf s) b = simp (count-read s) at (sound-is-table s bs h .each j k) in
     let each = entry-logarithm (ownOf s) n (clockOf s) in (

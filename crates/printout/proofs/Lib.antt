@@ -1,5 +1,5 @@
 pub mod Slots
-pub mod PrintoutHeadRows
+pub mod HeadRows
 pub mod Counts
 pub mod Rows
 pub mod Sizes

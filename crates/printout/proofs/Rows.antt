@@ -17,7 +17,7 @@ use Rattle.octets.proofs.Writing.{Wrote}
 use Rattle.octets.proofs.Progress.{Progress, concat, start, finish}
 use Rattle.printout_entry.specs.EntryRow.{entryRow}
 use Rattle.printout.specs.Printout.{entryRows, bucketRows, bucketsRows}
-use Rattle.printout.proofs.PrintoutHeadRows.{next-bucket}
+use Rattle.printout.proofs.HeadRows.{next-bucket}
 
 -- ---- a text that is written part by part
 

@@ -20,12 +20,12 @@ use Rattle.entry.proofs.Laws.{IsEntry}
 use Rattle.bucket_model.specs.Contents.{Contents, noContents}
 use Rattle.bucket_model.proofs.ByteForm.{IsContents}
 use Rattle.bucket_model.proofs.Values.{sound-contents}
-use Rattle.table_model.specs.Layout.{ownOf, clockOf, countOf, numberOf, bucketsOf}
+use Rattle.table_model.specs.Layout.{ownOf, clockOf, countOf, numberAt, bucketsOf}
 use Rattle.table_model.specs.Sound.{tableSound}
 use Rattle.table_model.proofs.Sound.{sound-is-table}
 use Rattle.table_model.proofs.Table.{count-read}
 use Rattle.printout.specs.TableRow.{tableWord, entryTotal, replacementTotal, tableRow}
-use Rattle.printout.specs.Held.{room}
+use Rattle.printout.specs.Steps.{room}
 use Rattle.printout.specs.Printout.{entryRows, bucketRows, bucketsRows, printout}
 
 entries-bound : (word : Bytes) (number place : ℕ) (es : List Entry) → length word ≤ 4 → number < 1000 → place + length es ≤ 100 → All IsEntry es
@@ -78,7 +78,7 @@ module _ (s : Bytes) (bs : IsBytes s) (h : tableSound s ≡ true) where
       at-All IsContents (bucketsOf s) noContents
       (λ j k.
       let b = t .each j k in
-      sound-contents (home (ownOf s) (numberOf (length (bucketsOf s)) j)) (clockOf s) (getD (bucketsOf s) j noContents) (b .rules) (b .values))
+      sound-contents (home (ownOf s) (numberAt (length (bucketsOf s)) j)) (clockOf s) (getD (bucketsOf s) j noContents) (b .rules) (b .values))
 
   module _ (few : countOf s ≤ 16) where
     head-bound : length (tableRow s) ≤ 37

@@ -13,12 +13,12 @@ use Rattle.entry.specs.declared.Entry.{Entry}
 use Rattle.bucket_model.specs.Contents.{Contents, entriesAt}
 use Rattle.bucket_model.proofs.Sound.{EntrySound}
 use Rattle.bucket_model.proofs.ByteForm.{decode-bucket}
-use Rattle.table_model.specs.Layout.{ownOf, clockOf, countOf, offsetOf, numberOf, bucketAt, headerSound}
+use Rattle.table_model.specs.Layout.{ownOf, clockOf, countOf, offsetOf, numberAt, bucketAt, headerSound}
 use Rattle.table_model.specs.Sound.{bucketSound, bucketsSound, tableSound}
 use Rattle.table_model.proofs.Sound.{SoundBucket, all-below, counts-at, table-header, sound-is-table}
 use Rattle.table_model.proofs.Table.{count-read, bucket-read}
 use Rattle.printout_entry.specs.EntryRow.{HasAddress}
-use Rattle.printout.specs.Held.{BucketIn}
+use Rattle.printout.specs.Steps.{BucketIn}
 
 -- an address of a sound entry has at most 16 bytes
 address-in : (home : Bytes → Bool) (clock : ℕ) (e : Entry) → EntrySound home clock e → HasAddress e
@@ -44,19 +44,19 @@ module _ (s : Bytes) (h : tableSound s ≡ true) (slot : ℕ) (k : slot < countO
   bucket-sound = all-below (countOf s) (bucketSound s) (and-right (headerSound s) (bucketsSound s) h) slot k
 
   pub counts : (getD s (offsetOf slot) 0 ≤ 16) × (getD s (offsetOf slot + 1) 0 ≤ 4)
-  counts = counts-at (home (ownOf s) (numberOf (countOf s) slot)) (clockOf s) s (offsetOf slot) (omega (arith, slot-in)) bucket-sound
+  counts = counts-at (home (ownOf s) (numberAt (countOf s) slot)) (clockOf s) s (offsetOf slot) (omega (arith, slot-in)) bucket-sound
 
   -- what it holds, by its place in the bytes
   pub bucket-is : bucketAt s slot ≡ record { entries = entriesAt s (offsetOf slot + 2) (getD s (offsetOf slot) 0); replacements = entriesAt s (offsetOf slot + 2290) (getD s (offsetOf slot + 1) 0) }
   bucket-is = decode-bucket s (offsetOf slot) (omega (arith, slot-in)) (counts .0) (counts .1)
 
   module _ (bs : IsBytes s) where
-    pub held : SoundBucket (home (ownOf s) (numberOf (countOf s) slot)) (clockOf s) (bucketAt s slot)
+    pub held : SoundBucket (home (ownOf s) (numberAt (countOf s) slot)) (clockOf s) (bucketAt s slot)
     held = simp (count-read s, bucket-read s slot k) at (sound-is-table s bs h .each slot (omega (arith, count-read s)))
 
     pub bucket-in : BucketIn s slot
     bucket-in =
-        let q = home (ownOf s) (numberOf (countOf s) slot) in
+        let q = home (ownOf s) (numberAt (countOf s) slot) in
         let rules = held .rules in
         record {
           within = slot-in;

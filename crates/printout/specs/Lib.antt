@@ -1,3 +1,3 @@
 pub mod TableRow
-pub mod Held
+pub mod Steps
 pub mod Printout

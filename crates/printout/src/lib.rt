@@ -7,9 +7,10 @@ ghost use Rattle.octets.specs.Octets.{store};
 ghost use Rattle.table_model.specs.Layout.{bucketsOf, countOf, bucketAt};
 ghost use Rattle.table_model.specs.Sound.{tableSound};
 ghost use Rattle.printout.specs.TableRow.{entryTotal, replacementTotal, tableRow};
-ghost use Rattle.printout.specs.Held.{room, EntriesIn, BucketIn};
+ghost use Rattle.printout.specs.Steps.{room, EntriesIn, BucketIn};
 ghost use Rattle.bucket_model.specs.Contents.{entriesAt};
 ghost use Rattle.printout.specs.Printout.{entryRows, bucketRows, bucketsRows, printout};
+use bucket::Bucket;
 use entry::Entry;
 use printout_entry::put_entry;
 use printout_rows::decimal_field;
@@ -41,7 +42,7 @@ fn held_in(table: &[u8]) -> Totals
     let mut replacements: usize = 0;
     let mut slot = 0;
     while slot < count {
-        let start = table::HEADER_SIZE + slot * table::BUCKET_SIZE;
+        let start = table::HEADER_SIZE + slot * Bucket::SIZE;
         entries += table[start] as usize;
         replacements += table[start + 1] as usize;
         slot += 1;
@@ -101,7 +102,7 @@ fn put_bucket(out: &mut [u8], at: usize, number: usize, table: &[u8], slot: usiz
     ensures next { λ r. ⌜ r ≡ at + length (bucketRows number (bucketAt (now (table .entry)) slot)) ⌝ }
     ensures bytes { λ _. ⌜ now (out .exit) ≡ store (now (out .entry)) at (bucketRows number (bucketAt (now (table .entry)) slot)) ⌝ }
 {
-    let start = table::HEADER_SIZE + slot * table::BUCKET_SIZE;
+    let start = table::HEADER_SIZE + slot * Bucket::SIZE;
     let entries = table[start] as usize;
     let replacements = table[start + 1] as usize;
     let next = put_entries(out, at, b"seat", number, table, start + 2, entries);
@@ -111,7 +112,7 @@ fn put_bucket(out: &mut [u8], at: usize, number: usize, table: &[u8], slot: usiz
         b"wait",
         number,
         table,
-        start + 2290,
+        start + Bucket::REPLACEMENTS_AT,
         replacements,
     )
 }

@@ -17,7 +17,7 @@ use Rattle.entry.specs.declared.Entry.{Entry}
 use Rattle.entry.specs.declared.EndpointProof.{EndpointProof}
 use Rattle.entry.specs.declared.EndpointProof.the-variants.{Unproved, At}
 use Rattle.entry.proofs.Laws.{IsEntry, ProofFits}
-use Rattle.entry.specs.Nodes.{addressOf}
+use Rattle.node.specs.Nodes.{addressOf}
 use Rattle.printout_entry.specs.EntryRow.{proofText, entryRow}
 
 -- ---- the row is written in four parts

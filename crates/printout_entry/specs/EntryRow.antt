@@ -9,7 +9,7 @@ use Rattle.printout_rows.specs.Rows.{keyText, pingText}
 use Rattle.entry.specs.declared.Entry.{Entry}
 use Rattle.entry.specs.declared.EndpointProof.{EndpointProof}
 use Rattle.entry.specs.declared.EndpointProof.the-variants.{Unproved, At}
-use Rattle.entry.specs.Nodes.{addressOf}
+use Rattle.node.specs.Nodes.{addressOf}
 
 -- `-`
 abbrev pub noProof : Bytes

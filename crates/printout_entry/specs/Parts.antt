@@ -6,11 +6,11 @@ use Rattle.text.specs.Decimals.{decimal}
 use Rattle.text.specs.Hex.{hex}
 use Rattle.text.specs.Rows.{tabbed, rowEnd}
 use Rattle.printout_rows.specs.Rows.{pingText}
-use Rattle.entry.specs.declared.Endpoint.{Endpoint}
-use Rattle.entry.specs.declared.MonotonicMillis.{MonotonicMillis}
+use Rattle.node.specs.declared.Endpoint.{Endpoint}
+use Rattle.node.specs.declared.MonotonicMillis.{MonotonicMillis}
 use Rattle.entry.specs.declared.EndpointProof.{EndpointProof}
 use Rattle.entry.specs.declared.PingState.{PingState}
-use Rattle.entry.specs.Nodes.{addressOf}
+use Rattle.node.specs.Nodes.{addressOf}
 use Rattle.printout_entry.specs.EntryRow.{proofText}
 
 -- the word, the distance and the place

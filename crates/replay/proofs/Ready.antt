@@ -12,12 +12,12 @@ use Rattle.log_lines.specs.Steps.{fresh}
 use Rattle.log_answer.specs.AnswerRows.{answerRoom}
 use Rattle.log_own.specs.declared.Replay.{Replay}
 use Rattle.log_own.specs.declared.Stepped.{Stepped}
-use Rattle.log_own.specs.Answered.{stateOf}
+use Rattle.log_own.specs.Steps.{stateOf}
 use Rattle.log_replay.specs.Replay.{after, start, line}
 use Rattle.log_replay.specs.Steps.{AnsweredLine}
 use Rattle.log_replay.proofs.Replayed.{startReplay, start-state}
 use Rattle.replay.specs.declared.Progress.{Progress}
-use Rattle.replay.specs.Progress.{Ready}
+use Rattle.replay.specs.Steps.{Ready}
 
 fresh-size : (b : Begun) → b ≡ fresh → b .len ≤ 3000
 fresh-size b e = let n : b .len ≡ 0 = ap (λ (x : Begun). x .len) e in omega arith

@@ -14,7 +14,7 @@ use Rattle.log_lines.specs.declared.Last.the-variants as last
 use Rattle.log_lines.specs.Steps.{piece, grown, stepOf, lastOf}
 use Rattle.log_lines.proofs.Laws.{grown-size}
 use Rattle.replay.specs.declared.Progress.{Progress}
-use Rattle.replay.specs.Progress.{left}
+use Rattle.replay.specs.Steps.{left}
 
 -- ---- a step
 

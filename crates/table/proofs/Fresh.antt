@@ -1,15 +1,16 @@
 -- Laws of `init`: its answers, the bytes that it writes, and that they are sound. Assumes nothing.
 use mathlib.Core.Path.{_≡_, refl, sym, ap, _∙_}
-use mathlib.Core.Bool.{Bool, true, false}
-use mathlib.Core.List.{List, [], _∷_, _++_, append-assoc, append-nil, flatMap}
-use Prim.Native.Nat.{ℕ, _+_, _*_, _≤_, _<_}
+use mathlib.Core.Bool.{true, false, not, _&&_}
+use mathlib.Core.List.{[], _∷_, _++_, append-assoc, append-nil, flatMap}
+use Prim.Native.Nat.{ℕ, _+_, _*_, _≤_}
 use native.Mathlib.Omega.{arith}
-use borrow.Author.Tests.{le-leb, eq-eqb}
-use lib.Dec.{eqb}
+use borrow.Author.Tests.{le-leb, leb-true, eq-eqb, ne-eqb, not-false}
+use lib.Dec.{eqb, leb}
 use lib.ListN.{length, take, drop, replicate, length-append, length-replicate, length-drop, take-append-drop, replicate-append-replicate}
 use lib.Seq.{length-take-le}
 use Rattle.octets.specs.Octets.{Bytes, store, bigEndian}
 use Rattle.octets.proofs.Laws.Numbers.{length-bigEndian}
+use Rattle.lists.proofs.Laws.{byTest, and-left, and-right, passed}
 use Rattle.keccak.specs.Sponge.{keccak256}
 use Rattle.keccak.proofs.Laws.{keccak256-length}
 use Rattle.bucket_model.specs.Contents.{noContents, encodeBucket}
@@ -18,7 +19,7 @@ use Rattle.table_model.specs.Sound.{tableSound}
 use Rattle.table_model.proofs.Records.{store-middle}
 use Rattle.table_model.proofs.Sound.{form-is-sound}
 use Rattle.table_model.proofs.Fresh.{fresh-zeros, fresh-form}
-use Rattle.table.specs.Init.{roomFor, initAnswer, initTable, freshTable}
+use Rattle.table.specs.Init.{roomFor, initAnswer, initTable, freshTable, InitKept}
 
 -- ---- the answer, and what it leaves
 
@@ -91,7 +92,36 @@ pub stored-fresh : (s key : Bytes) (count : ℕ) → length s ≡ offsetOf count
     → l₃ ≡ freshTable key count
 stored-fresh s key count n e e₁ e₂ e₃ = cc (fresh-stores s key count n)
 
--- "A fresh table is sound for every own key and every B"
-pub fresh-sound : (key : Bytes) (count : ℕ) → 1 ≤ count → count ≤ 256 → tableSound (freshTable key count) ≡ true
-fresh-sound key count one most =
-    form-is-sound (keccak256 key) 0 (replicate count noContents) (fresh-form (keccak256 key) count (keccak256-length key) one most)
+-- ---- an accepted `init`
+
+module _ (s key : Bytes) (count : ℕ) (zero : initAnswer s key count ≡ 0) where
+  has-room : roomFor count s ≡ true
+  unfolding initAnswer
+  has-room = not-false (roomFor count s) (passed ((not (roomFor count s), 1) ∷ (not (eqb (length key) 64), 5) ∷ []) refl zero .0)
+
+  pub from-1 : 1 ≤ count
+  from-1 = leb-true 1 count (and-left (leb 1 count) (leb count 256 && eqb (length s) (offsetOf count)) has-room)
+
+  pub to-256 : count ≤ 256
+  to-256 =
+      let rest = and-right (leb 1 count) (leb count 256 && eqb (length s) (offsetOf count)) has-room in
+      leb-true count 256 (and-left (leb count 256) (eqb (length s) (offsetOf count)) rest)
+
+  pub is-fresh : initTable s key count ≡ freshTable key count
+  unfolding initTable
+  is-fresh = rw zero refl
+
+pub init-kept : InitKept
+unfolding initTable
+init-kept =
+    record {
+      number-listed = λ s key count.
+          byTest (roomFor count s)
+          (λ r. byTest (eqb (length key) 64) (λ k. rw (← made s key count r k .0) refl) (λ k. rw (← wrong-key s key count r k .0) refl))
+          (λ r. rw (← wrong-room s key count r .0) refl);
+      refused-unchanged = λ s key count h. rw (ne-eqb (initAnswer s key count) 0 h) refl;
+      fresh-sound = λ s key count zero.
+          ap tableSound (is-fresh s key count zero)
+          ∙ form-is-sound (keccak256 key) 0 (replicate count noContents)
+          (fresh-form (keccak256 key) count (keccak256-length key) (from-1 s key count zero) (to-256 s key count zero));
+    }

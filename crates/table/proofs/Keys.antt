@@ -11,12 +11,12 @@ use Rattle.octets.proofs.Laws.{length-part, bytes-part, same-refl}
 use Rattle.lists.proofs.Laws.{byTest}
 use Rattle.keccak.specs.Sponge.{keccak256}
 use Rattle.keccak.proofs.Laws.{keccak256-length, keccak256-bytes}
-use Rattle.distance.specs.Distance.{distance, bitLength}
+use Rattle.distance.specs.Distance.{distance, bitLength, keepsNumber, slotOfNumber}
 use Rattle.distance.proofs.Laws.{distance-less, distance-zero, bitLength-positive}
-use Rattle.table_model.specs.Layout.{ownOf, countOf, isKept, slotOf}
+use Rattle.table_model.specs.Layout.{ownOf, countOf}
 use Rattle.table.specs.declared.Touched.{Touched}
 use Rattle.table.specs.declared.Touched.the-variants.{WrongKey, Own, NotKept, Slot}
-use Rattle.table.specs.Touched.{pick, touchedBy}
+use Rattle.table.specs.Steps.{pick, touchedBy}
 
 -- ---- only equal hashes have no distance
 

@@ -1,2 +1,2 @@
 pub mod Init
-pub mod Touched
+pub mod Steps

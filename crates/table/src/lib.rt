@@ -6,13 +6,12 @@ ghost use lib.Dec.{leb};
 ghost use lib.ListN.{length};
 ghost use Rattle.octets.specs.Octets.{store, bigEndian};
 ghost use Rattle.table_model.specs.Layout.{ownOf, clockOf, countOf, headerSound, encodeHeader};
-ghost use Rattle.table.specs.Touched.{pick, touchedBy};
+ghost use Rattle.table.specs.Steps.{pick, touchedBy};
 ghost use Rattle.table.specs.Init.{initAnswer, initTable, freshTable};
-use entry::MonotonicMillis;
+use bucket::Bucket;
+use node::MonotonicMillis;
 
 pub const HEADER_SIZE: usize = 512;
-
-pub const BUCKET_SIZE: usize = 2862;
 
 // Writes the byte form of a table of `count` empty buckets.
 fn write_fresh(table: &mut [u8], key: &[u8], count: usize)
@@ -21,7 +20,7 @@ fn write_fresh(table: &mut [u8], key: &[u8], count: usize)
 {
     let hash = keccak::keccak256(key);
     octets::put_bytes(table, 0, &hash);
-    octets::put_zeros(table, 32, 480 + count * 2862);
+    octets::put_zeros(table, 32, 480 + count * Bucket::SIZE);
     octets::put_number(table, 40, 2, count as u64);
 }
 
@@ -31,19 +30,19 @@ pub fn init(table: &mut [u8], key: &[u8], count: usize) -> u8
     ensures { λ r. ⌜ now (table .exit) ≡ initTable (now (table .entry)) (now (key .entry)) count ⌝ }
 {
     if count < 1 {
-        return 1;
+        return numbers::UNSOUND;
     }
     if 256 < count {
-        return 1;
+        return numbers::UNSOUND;
     }
-    if table.len() != 512 + count * 2862 {
-        return 1;
+    if table.len() != HEADER_SIZE + count * Bucket::SIZE {
+        return numbers::UNSOUND;
     }
     if key.len() != 64 {
-        return 5;
+        return numbers::WRONG_KEY;
     }
     write_fresh(table, key, count);
-    0
+    numbers::DONE
 }
 
 // The own hash, as the header has it.
@@ -83,7 +82,7 @@ pub fn header_sound(bytes: &[u8]) -> bool
     ensures { λ r. ⌜ r ≡ headerSound (now (bytes .entry)) ⌝ }
 {
     let size = bytes.len();
-    if size < 512 {
+    if size < HEADER_SIZE {
         return false;
     }
     let count = bucket_count(bytes);
@@ -93,11 +92,11 @@ pub fn header_sound(bytes: &[u8]) -> bool
     if 256 < count {
         return false;
     }
-    if size != 512 + count * 2862 {
+    if size != HEADER_SIZE + count * Bucket::SIZE {
         return false;
     }
     let zeros = [0u8; 470];
-    octets::same_bytes(&bytes[42..512], &zeros)
+    octets::same_bytes(&bytes[42..HEADER_SIZE], &zeros)
 }
 
 // The bucket that a key touches, or why it touches none.

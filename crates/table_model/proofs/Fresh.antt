@@ -8,7 +8,7 @@ use Rattle.octets.specs.Octets.{Bytes}
 use Rattle.distance.specs.Distance.{home}
 use Rattle.bucket_model.specs.Contents.{noContents, encodeEntries, encodeList, encodeBucket}
 use Rattle.bucket_model.proofs.Kept.{sound-fresh}
-use Rattle.table_model.specs.Layout.{numberOf}
+use Rattle.table_model.specs.Layout.{numberAt}
 use Rattle.table_model.proofs.Sound.{SoundTable}
 
 -- an empty bucket is zeros
@@ -38,5 +38,5 @@ fresh-form own count n one most =
       each = λ j h.
           let k : j < count = omega arith in
           rw (getD-replicate count j noContents noContents k)
-          (record { rules = sound-fresh (home own (numberOf (length (replicate count noContents)) j)) 0; values = (tt, tt) });
+          (record { rules = sound-fresh (home own (numberAt (length (replicate count noContents)) j)) 0; values = (tt, tt) });
     }

@@ -21,7 +21,7 @@ use Rattle.bucket_model.proofs.Exact.{sound-has-form}
 use Rattle.bucket_model.proofs.Sound.{BucketSound}
 use Rattle.bucket_model.proofs.Every.{Every}
 use Rattle.bucket_model.proofs.Values.{sound-contents, sound-encoded, decoded-sound}
-use Rattle.table_model.specs.Layout.{encodeHeader, encodeTable, offsetOf, numberOf, ownOf, clockOf, countOf, bucketBytes, bucketAt, bucketsOf, headerSound}
+use Rattle.table_model.specs.Layout.{encodeHeader, encodeTable, offsetOf, numberAt, ownOf, clockOf, countOf, bucketBytes, bucketAt, bucketsOf, headerSound}
 use Rattle.table_model.specs.Sound.{allBelow, bucketSound, bucketsSound, tableSound}
 use Rattle.table_model.proofs.Records.{flatMap-tabulate}
 use Rattle.table_model.proofs.Header.{HeaderSound, header-sound, sound-header, header-form}
@@ -101,7 +101,7 @@ pub record SoundTable (own : Bytes) (clock : ℕ) (buckets : List Contents) : Ty
   pub clock-fits : clock < 2 ^ 64
   pub one : 1 ≤ length buckets
   pub most : length buckets ≤ 256
-  pub each : (j : ℕ) → j < length buckets → SoundBucket (home own (numberOf (length buckets) j)) clock (getD buckets j noContents)
+  pub each : (j : ℕ) → j < length buckets → SoundBucket (home own (numberAt (length buckets) j)) clock (getD buckets j noContents)
 
 All-getD : {A : Type 0} (P : A → Type 0) (l : List A) (d : A) → ((j : ℕ) → j < length l → P (getD l j d)) → All P l
 All-getD P [] d h = tt
@@ -109,7 +109,7 @@ All-getD P (a ∷ l) d h = (h 0 (omega arith), All-getD P l d (λ j k. h (suc j)
 
 module _ (own : Bytes) (clock : ℕ) (buckets : List Contents) (f : SoundTable own clock buckets) where
   pub sized-table : SizedBuckets buckets
-  sized-table = All-getD (λ m. length (encodeBucket m) ≡ 2862) buckets noContents (λ j h. bucket-size (home own (numberOf (length buckets) j)) clock (getD buckets j noContents) (f .each j h))
+  sized-table = All-getD (λ m. length (encodeBucket m) ≡ 2862) buckets noContents (λ j h. bucket-size (home own (numberAt (length buckets) j)) clock (getD buckets j noContents) (f .each j h))
 
   -- what was written is read back
   pub own-back : ownOf (encodeTable own clock buckets) ≡ own
@@ -122,10 +122,10 @@ module _ (own : Bytes) (clock : ℕ) (buckets : List Contents) (f : SoundTable o
   count-back = count-table own clock buckets (f .own-size) (f .most)
 
   pub bucket-at-back : (j : ℕ) → j < length buckets → bucketAt (encodeTable own clock buckets) j ≡ getD buckets j noContents
-  bucket-at-back j h = ap decodeBucket (bucket-table own clock buckets (f .own-size) sized-table j h) ∙ bucket-back (home own (numberOf (length buckets) j)) clock (getD buckets j noContents) (f .each j h)
+  bucket-at-back j h = ap decodeBucket (bucket-table own clock buckets (f .own-size) sized-table j h) ∙ bucket-back (home own (numberAt (length buckets) j)) clock (getD buckets j noContents) (f .each j h)
 
   pub buckets-back : bucketsOf (encodeTable own clock buckets) ≡ buckets
-  buckets-back = buckets-table own clock buckets (f .own-size) sized-table (f .most) (λ j h. bucket-back (home own (numberOf (length buckets) j)) clock (getD buckets j noContents) (f .each j h))
+  buckets-back = buckets-table own clock buckets (f .own-size) sized-table (f .most) (λ j h. bucket-back (home own (numberAt (length buckets) j)) clock (getD buckets j noContents) (f .each j h))
 
   pub header-of-form : headerSound (encodeTable own clock buckets) ≡ true
   header-of-form =
@@ -145,7 +145,7 @@ module _ (own : Bytes) (clock : ℕ) (buckets : List Contents) (f : SoundTable o
       below-all (countOf s) (bucketSound s)
       (λ j k. let k′ : j < length buckets = omega (arith, count-back) in
       simp (own-back, clock-back, count-back, bucket-table own clock buckets (f .own-size) sized-table j k′)
-      (sound-encoded (home own (numberOf (length buckets) j)) clock (getD buckets j noContents) (f .each j k′ .rules) (f .each j k′ .values)))
+      (sound-encoded (home own (numberAt (length buckets) j)) clock (getD buckets j noContents) (f .each j k′ .rules) (f .each j k′ .values)))
 
   -- the byte form of a sound table is sound
   pub form-is-sound : tableSound (encodeTable own clock buckets) ≡ true
@@ -178,7 +178,7 @@ module _ (s : Bytes) (bs : IsBytes s) (h : tableSound s ≡ true) where
         each = λ j k.
             let k′ : j < countOf s = omega (arith, count-read s) in
             simp (count-read s, bucket-read s j k′)
-            (decoded-bucket (home (ownOf s) (numberOf (countOf s) j)) (clockOf s) (bucketBytes s j) (slot-size j k′)
+            (decoded-bucket (home (ownOf s) (numberAt (countOf s) j)) (clockOf s) (bucketBytes s j) (slot-size j k′)
             (bytes-part s (offsetOf j) 2862 bs) (bucket-holds j k′));
       }
 
@@ -187,7 +187,7 @@ module _ (s : Bytes) (bs : IsBytes s) (h : tableSound s ≡ true) where
   table-of-sound =
       let all : flatMap encodeBucket (bucketsOf s) ≡ drop 512 s =
       flatMap-tabulate encodeBucket 2862 (countOf s) (bucketAt s) s 512 (header-holds .size)
-      (λ j k. encoded-bucket (home (ownOf s) (numberOf (countOf s) j)) (clockOf s) (bucketBytes s j) (slot-size j k)
+      (λ j k. encoded-bucket (home (ownOf s) (numberAt (countOf s) j)) (clockOf s) (bucketBytes s j) (slot-size j k)
       (bytes-part s (offsetOf j) 2862 bs) (bucket-holds j k)) in
       ap (λ (n : ℕ). encodeHeader (ownOf s) (clockOf s) n ++ flatMap encodeBucket (bucketsOf s)) (count-read s)
       ∙ ap (λ l. encodeHeader (ownOf s) (clockOf s) (countOf s) ++ l) all

@@ -17,15 +17,9 @@ tabulate (suc n) f = f 0 ∷ tabulate n (λ i. f (suc i))
 abbrev pub offsetOf : ℕ → ℕ
 offsetOf slot = 512 + slot * 2862
 
--- "A table of B buckets keeps numbers 256−B to 255"
-abbrev pub isKept : ℕ → ℕ → Bool
-isKept count number = leb (256 - count) number
-
-abbrev pub numberOf : ℕ → ℕ → ℕ
-numberOf count slot = 256 - count + slot
-
-abbrev pub slotOf : ℕ → ℕ → ℕ
-slotOf count number = number - (256 - count)
+-- the bucket's number: "A table of B buckets keeps numbers 256−B to 255"
+abbrev pub numberAt : ℕ → ℕ → ℕ
+numberAt count slot = 256 - count + slot
 
 -- ---- writing
 

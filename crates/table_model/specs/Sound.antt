@@ -4,7 +4,7 @@ use mathlib.Core.Bool.{Bool, true, _&&_}
 use Rattle.octets.specs.Octets.{Bytes}
 use Rattle.distance.specs.Distance.{home}
 use Rattle.bucket_model.specs.Sound.{sound}
-use Rattle.table_model.specs.Layout.{ownOf, clockOf, countOf, numberOf, bucketBytes, headerSound}
+use Rattle.table_model.specs.Layout.{ownOf, clockOf, countOf, numberAt, bucketBytes, headerSound}
 
 -- a test passes at each number below n
 unfoldable pub allBelow : ℕ → (ℕ → Bool) → Bool
@@ -17,7 +17,7 @@ anywhere key = true
 
 -- the bucket in a slot is sound
 abbrev pub bucketSound : Bytes → ℕ → Bool
-bucketSound s slot = sound (home (ownOf s) (numberOf (countOf s) slot)) (clockOf s) (bucketBytes s slot)
+bucketSound s slot = sound (home (ownOf s) (numberAt (countOf s) slot)) (clockOf s) (bucketBytes s slot)
 
 unfoldable pub bucketsSound : Bytes → Bool
 bucketsSound s = allBelow (countOf s) (bucketSound s)

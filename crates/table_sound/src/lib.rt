@@ -4,6 +4,7 @@ ghost use mathlib.Core.Bool.{true};
 ghost use Prim.Native.Nat.{_<_};
 ghost use Rattle.table_model.specs.Layout.{countOf, headerSound};
 ghost use Rattle.table_model.specs.Sound.{bucketSound, bucketsSound, tableSound};
+use bucket::Bucket;
 
 // Whether the bucket in a slot is sound, in a table with a sound header.
 pub fn slot_sound(bytes: &[u8], slot: usize) -> bool
@@ -13,7 +14,13 @@ pub fn slot_sound(bytes: &[u8], slot: usize) -> bool
     let own = table::own_hash(bytes);
     let clock = table::clock(bytes);
     let number = 256 - table::bucket_count(bytes) + slot;
-    bucket_sound::sound(bytes, 512 + slot * 2862, &own, number, clock)
+    bucket_sound::sound(
+        bytes,
+        table::HEADER_SIZE + slot * Bucket::SIZE,
+        &own,
+        number,
+        clock,
+    )
 }
 
 // Whether all buckets are, in a table with a sound header.

@@ -26,12 +26,12 @@ mod answers;
 
 use answers::print_answer;
 use counters::Counters;
-use entry::Endpoint;
-use entry::MonotonicMillis;
-use entry::Node;
-use entry::UnixSeconds;
 use libc::STDIN_FILENO;
 use libc::STDOUT_FILENO;
+use node::Endpoint;
+use node::MonotonicMillis;
+use node::Node;
+use node::UnixSeconds;
 use test_lines::Line;
 use test_lines::bytes_at;
 use test_lines::short;

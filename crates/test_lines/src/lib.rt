@@ -107,14 +107,10 @@ pub fn store(s: &mut [u8], at: usize, bytes: &[u8]) {
 
 // ---- what is printed
 
-fn wide(b: u8) -> u64 {
-    b as u64
-}
-
 pub fn print_hex(bytes: &[u8]) {
     let mut i: usize = 0;
     while i < bytes.len() {
-        io::print_hex(STDOUT_FILENO, wide(bytes[i]), 2);
+        io::print_hex(STDOUT_FILENO, octets::wide(bytes[i]), 2);
         i += 1;
     }
 }

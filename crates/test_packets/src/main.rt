@@ -11,10 +11,10 @@ ghost use lib.ListN.{length};
 
 mod reading;
 
-use entry::Endpoint;
-use entry::Node;
 use libc::STDIN_FILENO;
 use libc::STDOUT_FILENO;
+use node::Endpoint;
+use node::Node;
 use packet_bodies::NodeList;
 use packet_model::EnrSeq;
 use test_lines::Line;

@@ -1,11 +1,12 @@
 // The answer of reading a datagram, and its fields.
-use entry::Node;
-use entry::UnixSeconds;
 use libc::STDOUT_FILENO;
+use node::Node;
+use node::UnixSeconds;
 use packet::EnrResponse;
 use packet::FindNode;
 use packet::Neighbors;
 use packet::Packet;
+use packet::Parsed;
 use packet::Ping;
 use packet::Pong;
 use packet::Recipient;
@@ -112,7 +113,13 @@ fn print_packet(g: &[u8], packet: Packet) {
             print_number(p.expiration);
         }
         Packet::EnrResponse(p) => print_enr_response(g, p),
-        Packet::Refused(number) => {
+    }
+}
+
+fn print_parsed(g: &[u8], parsed: Parsed) {
+    match parsed {
+        Parsed::Packet(packet) => print_packet(g, packet),
+        Parsed::Refused(number) => {
             io::print_decimal(STDOUT_FILENO, number as u64);
         }
     }
@@ -121,7 +128,7 @@ fn print_packet(g: &[u8], packet: Packet) {
 pub fn print_read(g: &[u8], unix: u64) {
     if packet_envelope::is_sized(g) {
         if packet_envelope::hash_matches(g) {
-            print_packet(g, packet_datagram::read(g, UnixSeconds(unix)));
+            print_parsed(g, packet_datagram::read(g, UnixSeconds(unix)));
         } else {
             io::write_all(STDOUT_FILENO, b"4");
         }

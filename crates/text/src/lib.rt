@@ -46,12 +46,6 @@ pub enum Decimal {
     NotDecimal,
 }
 
-fn wide(b: u8) -> u64
-    ensures { λ r. ⌜ r ≡ b ⌝ }
-{
-    b as u64
-}
-
 // The number `a` with one digit more.
 fn push_digit(limit: u64, a: u64, b: u8) -> Decimal
     ensures { λ r. ⌜ r ≡ digitsFrom limit a (b ∷ []) ⌝ }
@@ -62,7 +56,7 @@ fn push_digit(limit: u64, a: u64, b: u8) -> Decimal
     if 57 < b {
         return Decimal::NotDecimal;
     }
-    let d = wide(b - 48);
+    let d = octets::wide(b - 48);
     if limit / 10 < a {
         return Decimal::NotDecimal;
     }

@@ -4,9 +4,11 @@ use mathlib.Core.Path.{_≡_, refl, ap, _∙_}
 use mathlib.Core.Bool.{Bool, true, false}
 use native.Mathlib.Omega.{arith}
 use borrow.Author.Tests.{le-leb, lt-leb}
+use lib.Dec.{leb}
 use lib.ListN.{length}
 use Rattle.octets.specs.Octets.{Bytes, store}
-use Rattle.written.specs.Written.{written, writtenIn}
+use Rattle.lists.proofs.Laws.{byTest}
+use Rattle.written.specs.Written.{written, writtenIn, WrittenKept}
 use Rattle.written.specs.declared.Written.{Written}
 use Rattle.written.specs.declared.Written.the-variants.{Done, Short, Unwritable}
 
@@ -26,3 +28,17 @@ module _ (ok : Bool) (bytes buf : Bytes) where
   pub refused : ok ≡ false → Answered ok bytes buf Unwritable buf
   unfolding written writtenIn
   refused f = rw f (refl, refl)
+
+pub written-kept : WrittenKept
+unfolding written writtenIn
+written-kept =
+    record {
+      number-listed = λ ok bytes buf.
+          byTest ok
+          (λ t. byTest (leb (length bytes) (length buf)) (λ l. rw (t, l) refl) (λ l. rw (t, l) refl))
+          (λ t. rw t refl);
+      refused-unchanged = λ ok bytes buf.
+          byTest ok
+          (λ t. byTest (leb (length bytes) (length buf)) (λ l. rw (t, l) (λ h. absurd (h refl))) (λ l. rw (t, l) (λ h. refl)))
+          (λ t. rw t (λ h. refl));
+    }

@@ -1,9 +1,12 @@
 -- The answer of a writer, and what a write leaves.
 use Prim.Native.Nat.{ℕ}
-use mathlib.Core.Bool.{Bool, cond}
-use lib.Dec.{leb}
+use mathlib.Core.Path.{_≡_}
+use mathlib.Core.Bool.{Bool, true, cond}
+use mathlib.Core.List.{[], _∷_}
+use lib.Dec.{leb, eqb}
 use lib.ListN.{length}
 use Rattle.octets.specs.Octets.{Bytes, store}
+use Rattle.lists.specs.Lists.{any}
 use Rattle.written.specs.declared.Written.{Written}
 use Rattle.written.specs.declared.Written.the-variants.{Done, Short, Unwritable}
 
@@ -25,3 +28,10 @@ written ok bytes buf = cond ok (cond (leb (length bytes) (length buf)) (Done (le
 
 unfoldable pub writtenIn : Bool → Bytes → Bytes → Bytes
 writtenIn ok bytes buf = cond ok (cond (leb (length bytes) (length buf)) (store buf 0 bytes) buf) buf
+
+-- every writer
+pub record WrittenKept : Type 0 where
+  -- "Writing and joining give only 0, 19 and 20"
+  pub number-listed : (ok : Bool) (bytes buf : Bytes) → any (eqb (writtenNumber (written ok bytes buf))) (0 ∷ 19 ∷ 20 ∷ []) ≡ true
+  -- "A refusal .. changes nothing lent"
+  pub refused-unchanged : (ok : Bool) (bytes buf : Bytes) → (writtenNumber (written ok bytes buf) ≡ 0 → ⊥) → writtenIn ok bytes buf ≡ buf

@@ -17,9 +17,9 @@ pub fn written_number(written: Written) -> u8
     ensures { λ r. ⌜ r ≡ writtenNumber written ⌝ }
 {
     match written {
-        Written::Done(_) => 0,
-        Written::Short => 19,
-        Written::Unwritable => 20,
+        Written::Done(_) => numbers::DONE,
+        Written::Short => numbers::SHORT_ROOM,
+        Written::Unwritable => numbers::NOT_WRITABLE,
     }
 }
 

@@ -2,7 +2,7 @@
 use native.Mathlib.Omega.{arith}
 use lib.ListN.{length}
 use mathlib.Core.Path.{_≡_}
-use Rattle.bucket.specs.Values.{listed}
+use Rattle.bucket.specs.Steps.{listed}
 use Rattle.bucket.proofs.Laws.{length-mapped, length-listed, store-list-done}
 use borrow.Author.Needs.{needs}
 use Rattle.bucket.proofs.store_list.Statement.{statement}

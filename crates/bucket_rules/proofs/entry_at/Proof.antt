@@ -3,7 +3,7 @@ use mathlib.Core.Path.{_≡_}
 use native.Mathlib.Omega.{arith}
 use lib.ListN.{length}
 use Rattle.bucket.proofs.Laws.{length-mapped}
-use Rattle.bucket_rules.proofs.BucketLookupLaws.{in-entries, in-replacements, entry-there, replacement-there, nothing-there}
+use Rattle.bucket_rules.proofs.LookupLaws.{in-entries, in-replacements, entry-there, replacement-there, nothing-there}
 use borrow.Author.Needs.{needs}
 use Rattle.bucket_rules.proofs.entry_at.Statement.{statement}
 use Rattle.bucket_rules.proofs.entry_at.Tie as tie

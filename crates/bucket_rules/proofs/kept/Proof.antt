@@ -5,8 +5,8 @@ use native.Mathlib.Omega.{arith}
 use borrow.Author.Needs.{needs}
 use lib.ListN.{length}
 use Rattle.bucket.proofs.Laws.{length-mapped}
-use Rattle.bucket_rules.specs.Sweep.{stays}
-use Rattle.bucket_rules.proofs.BucketSweepLaws.{Kept, counted, kept-turn, kept-done}
+use Rattle.bucket_rules.specs.Steps.{stays}
+use Rattle.bucket_rules.proofs.SweepLaws.{Kept, counted, kept-turn, kept-done}
 use borrow.Author.Needs.{needs}
 use Rattle.bucket_rules.proofs.kept.Statement.{statement}
 use Rattle.bucket_rules.proofs.kept.Tie as tie

@@ -1,6 +1,6 @@
 -- `bucket_rules::look_up` meets its contract. Assumes nothing.
-use Rattle.bucket_rules.proofs.BucketLookupLaws.{within, looked-up}
-use Rattle.bucket.specs.Values.{contents}
+use Rattle.bucket_rules.proofs.LookupLaws.{within, looked-up}
+use Rattle.bucket.specs.Steps.{contents}
 use borrow.Author.Needs.{needs}
 use Rattle.bucket_rules.proofs.look_up.Statement.{statement}
 use Rattle.bucket_rules.proofs.look_up.Tie as tie

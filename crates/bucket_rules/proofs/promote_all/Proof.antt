@@ -5,10 +5,10 @@ use native.Mathlib.Omega.{arith}
 use borrow.Author.Needs.{needs}
 use lib.ListN.{length, take}
 use lib.Seq.{length-take-le}
-use Rattle.bucket.specs.Values.{contents, Shows}
+use Rattle.bucket.specs.Steps.{contents, Shows}
 use Rattle.bucket.proofs.Laws.{length-mapped, length-listed, holds-listed}
-use Rattle.bucket_rules.specs.Sweep.{promoteAll}
-use Rattle.bucket_rules.proofs.BucketSweepLaws.{promote-turn, promoteAll-line}
+use Rattle.bucket_rules.specs.Steps.{promoteAll}
+use Rattle.bucket_rules.proofs.SweepLaws.{promote-turn, promoteAll-line}
 use borrow.Author.Needs.{needs}
 use Rattle.bucket_rules.proofs.promote_all.Statement.{statement}
 use Rattle.bucket_rules.proofs.promote_all.Tie as tie

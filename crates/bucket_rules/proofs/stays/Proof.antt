@@ -2,7 +2,7 @@
 use mathlib.Core.Path.{ap}
 use mathlib.Core.Bool.{not}
 use Rattle.bucket_entry.proofs.Laws.{joined}
-use Rattle.bucket_rules.proofs.BucketSweepLaws.{stays-waiting, stays-else}
+use Rattle.bucket_rules.proofs.SweepLaws.{stays-waiting, stays-else}
 use borrow.Author.Needs.{needs}
 use Rattle.bucket_rules.proofs.stays.Statement.{statement}
 use Rattle.bucket_rules.proofs.stays.Tie as tie

@@ -1,5 +1,5 @@
 -- `bucket_rules::sweep` meets its contract. Assumes nothing.
-use Rattle.bucket_rules.proofs.BucketSweepLaws.{swept}
+use Rattle.bucket_rules.proofs.SweepLaws.{swept}
 use borrow.Author.Needs.{needs}
 use Rattle.bucket_rules.proofs.sweep.Statement.{statement}
 use Rattle.bucket_rules.proofs.sweep.Tie as tie
@@ -8,8 +8,8 @@ returns : tie.Need-returns
 returns c = let at-kept-2 = c .before .before in
     let at-kept = at-kept-2 .before in
     let args = at-kept .before .before .before .args in
-    swept (args .clock .0) (args .b) (c .promote-all .result) (at-kept .kept .result) (at-kept-2 .kept2 .result) (c .before .empty .result)
-    (at-kept .kept .ensures) (at-kept-2 .kept2 .ensures) (c .before .empty .ensures) (c .promote-all .ensures)
+    swept (args .clock .0) (args .b) (c .promote-all .result) (at-kept .kept .result) (at-kept-2 .kept2 .result) (c .before .fresh .result .replacements)
+    (at-kept .kept .ensures) (at-kept-2 .kept2 .ensures) (c .before .fresh .ensures .replacements) (c .promote-all .ensures)
 
 pub sweep-spec : {M : Type 1} → statement M
 sweep-spec =

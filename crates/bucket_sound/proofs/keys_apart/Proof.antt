@@ -3,7 +3,7 @@ use mathlib.Core.Path.{_≡_, sym, _∙_}
 use Prim.Native.Nat.{_+_, _*_, _-_, _≤_}
 use native.Mathlib.Omega.{arith}
 use borrow.Author.Tests.{not-true, not-false}
-use Rattle.bucket_sound.specs.Records.{keysApart}
+use Rattle.bucket_sound.specs.Steps.{keysApart}
 use Rattle.bucket_sound.proofs.Tests.{and-same}
 use Rattle.bucket_sound.proofs.Steps.{apart-left, goes-on, stops, from-start, at-end, no-keys}
 use Rattle.bucket_sound.proofs.keys_apart.Statement.{statement}

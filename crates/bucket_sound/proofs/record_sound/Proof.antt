@@ -1,5 +1,5 @@
 -- `bucket_sound::record_sound` meets its contract. Assumes nothing.
-use Rattle.bucket_sound.specs.Records.{homeIf}
+use Rattle.bucket_sound.specs.Steps.{homeIf}
 use Rattle.bucket_sound.proofs.Exact.{shape-is, record-yes, record-no}
 use borrow.Author.Needs.{needs}
 use Rattle.bucket_sound.proofs.record_sound.Statement.{statement}

@@ -3,7 +3,7 @@ use mathlib.Core.Path.{_≡_, sym, _∙_}
 use Prim.Native.Nat.{_+_, _*_, _-_, _≤_}
 use native.Mathlib.Omega.{arith}
 use borrow.Author.Tests.{not-true, not-false}
-use Rattle.bucket_sound.specs.Records.{homeIf, recordSound, allRecords}
+use Rattle.bucket_sound.specs.Steps.{homeIf, recordSound, allRecords}
 use Rattle.bucket_sound.proofs.Steps.{records-left, goes-on, stops, from-start, at-end, no-records}
 use Rattle.bucket_sound.proofs.records_sound.Statement.{statement}
 use Rattle.bucket_sound.proofs.records_sound.Tie as tie

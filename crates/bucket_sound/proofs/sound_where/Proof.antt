@@ -1,7 +1,7 @@
 -- `bucket_sound::sound_where` meets its contract. Assumes nothing.
 use Prim.Native.Nat.{_+_}
 use native.Mathlib.Omega.{arith}
-use Rattle.bucket_sound.specs.Records.{homeIf}
+use Rattle.bucket_sound.specs.Steps.{homeIf}
 use Rattle.bucket_sound.proofs.Exact.{sound-done, too-many, too-many-waiting}
 use borrow.Author.Needs.{needs}
 use Rattle.bucket_sound.proofs.sound_where.Statement.{statement}

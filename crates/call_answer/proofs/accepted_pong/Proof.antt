@@ -5,7 +5,7 @@ use lib.ListN.{length}
 use native.Mathlib.Omega.{arith}
 use borrow.Author.Needs.{needs}
 use borrow.Author.Tests.{ltb-false}
-use Rattle.bucket.specs.Values.{contents}
+use Rattle.bucket.specs.Steps.{contents}
 use Rattle.bucket.proofs.Laws.{length-mapped, length-listed}
 use Rattle.call_answer.proofs.Pong.{was-entry, took-entry, waits}
 use Rattle.call_answer.proofs.accepted_pong.Statement.{statement}

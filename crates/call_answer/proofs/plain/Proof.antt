@@ -1,7 +1,7 @@
 -- `call_answer::plain` meets its contract. Assumes nothing.
 use mathlib.Core.Path.{ap}
 use borrow.Author.Needs.{needs}
-use Rattle.entry.specs.declared.Node.{Node}
+use Rattle.node.specs.declared.Node.{Node}
 use Rattle.call_answer.proofs.plain.Statement.{statement}
 use Rattle.call_answer.proofs.plain.Tie as tie
 

@@ -1,7 +1,7 @@
 -- `call_answer::waiting` meets its contract. Assumes nothing.
 use mathlib.Core.Path.{ap}
 use borrow.Author.Needs.{needs}
-use Rattle.entry.specs.declared.Node.{Node}
+use Rattle.node.specs.declared.Node.{Node}
 use Rattle.call_answer.specs.declared.Standing.the-variants.{Waiting}
 use Rattle.call_answer.specs.declared.Outcome.the-variants.{Pong}
 use Rattle.call_answer.proofs.waiting.Statement.{statement}

@@ -6,7 +6,7 @@ use Rattle.table_model.specs.Layout.{clockOf}
 use Rattle.table_model.proofs.Header.{header-sound}
 use Rattle.table.specs.declared.Touched.{Touched}
 use Rattle.call_touched.proofs.Touch.{unsound-reached, sound-reached, header-there}
-use Rattle.call_datagram.specs.Tests.{judgedAt}
+use Rattle.call_datagram.specs.Steps.{judgedAt}
 use Rattle.call_datagram.proofs.Judging.{judge-unsound, judge-sound}
 use Rattle.call_datagram.proofs.judge.Statement.{statement}
 use Rattle.call_datagram.proofs.judge.Tie as tie

@@ -6,10 +6,11 @@ use Rattle.lists.specs.Lists.{first}
 use Rattle.bucket_model.specs.Contents.{Contents}
 use Rattle.bucket_model.specs.Rules.{onPingSent}
 use Rattle.table_model.specs.Layout.{bucketAt}
-use Rattle.bucket.specs.Values.{Shows}
+use Rattle.bucket.specs.Steps.{Shows}
 use Rattle.bucket.proofs.Laws.{of-shown}
 use Rattle.call_touched.proofs.Slots.{fits, held-sound, written}
-use Rattle.call_ping_sent.specs.Steps.{heldTests}
+use Rattle.call_history.specs.Model.{heldRefusals}
+use Rattle.call_ping_sent.specs.Steps.{}
 use Rattle.call_ping_sent.proofs.Noting.{bounded-ping, not-noted, is-noted, room-left}
 use Rattle.call_ping_sent.proofs.note.Statement.{statement}
 use Rattle.call_ping_sent.proofs.note.Tie as tie
@@ -21,7 +22,7 @@ returns c =
     let b = c .before .before .before .bucket-in in
     let n = c .before .ping-sent-number in
     not-noted (a .table .now) (a .slot) (a .clock .0) (a .key .now) (a .address .now) (a .udp) (a .tcp) (a .hash .now)
-    (of-shown (λ x. n .result ≡ first (heldTests (a .address .now) (a .udp) (a .key .now) x)) (b .result) m (b .ensures .0)
+    (of-shown (λ x. n .result ≡ first (heldRefusals (a .address .now) (a .udp) (a .key .now) x)) (b .result) m (b .ensures .0)
     (n .ensures (a .key .now) (c .before .before .look-up .ensures))) (c .if1 .taken)
 
 put-requires : tie.Need-put-requires
@@ -33,8 +34,8 @@ put-requires c κs =
     let b = c .before .before .before .before .before .bucket-in in
     let n = c .before .before .before .ping-sent-number in
     let after = c .before .ping-sent in
-    let is : n .result ≡ first (heldTests (a .address .now) (a .udp) (a .key .now) m) =
-    of-shown (λ x. n .result ≡ first (heldTests (a .address .now) (a .udp) (a .key .now) x)) (b .result) m (b .ensures .0)
+    let is : n .result ≡ first (heldRefusals (a .address .now) (a .udp) (a .key .now) m) =
+    of-shown (λ x. n .result ≡ first (heldRefusals (a .address .now) (a .udp) (a .key .now) x)) (b .result) m (b .ensures .0)
     (n .ensures (a .key .now) (c .before .before .before .before .look-up .ensures)) in
     let shows : Shows (after .result) (onPingSent (a .clock .0) (a .key .now) (a .address .now) (a .udp) (a .tcp) (a .hash .now) m) =
     of-shown (λ x. Shows (after .result) (onPingSent (a .clock .0) (a .key .now) (a .address .now) (a .udp) (a .tcp) (a .hash .now) x)) (b .result) m (b .ensures .0) (after .ensures) in
@@ -55,7 +56,7 @@ returns-2 c =
     let shows : Shows (after .result) (onPingSent (a .clock .0) (a .key .now) (a .address .now) (a .udp) (a .tcp) (a .hash .now) m) =
     of-shown (λ x. Shows (after .result) (onPingSent (a .clock .0) (a .key .now) (a .address .now) (a .udp) (a .tcp) (a .hash .now) x)) (b .result) m (b .ensures .0) (after .ensures) in
     is-noted s (a .slot) (a .clock .0) (a .key .now) (a .address .now) (a .udp) (a .tcp) (a .hash .now)
-    (of-shown (λ x. n .result ≡ first (heldTests (a .address .now) (a .udp) (a .key .now) x)) (b .result) m (b .ensures .0)
+    (of-shown (λ x. n .result ≡ first (heldRefusals (a .address .now) (a .udp) (a .key .now) x)) (b .result) m (b .ensures .0)
     (n .ensures (a .key .now) (c .before .before .before .before .before .before .before .look-up .ensures))) (c .before .before .before .before .before .if1 .left)
     (written s (a .slot) (a .clock .0) (after .result) _ shows (c .before .before .put .ensures))
 

@@ -6,7 +6,7 @@ use Rattle.octets.specs.Octets.{Bytes}
 use Rattle.call_history.specs.Model.{sweep}
 use Rattle.call_model.specs.Reading.{reading}
 use Rattle.call_model.specs.Calls.{answerOn, bytesAfter}
-use Rattle.call_sweep.specs.Sweep.{sweepAnswer, sweepTable}
+use Rattle.call_sweep.specs.Steps.{sweepAnswer, sweepTable}
 use Rattle.call_sweep.proofs.sweep_on.Statement.{statement}
 use Rattle.call_sweep.proofs.sweep_on.Tie as tie
 

@@ -5,7 +5,7 @@ use borrow.Author.Needs.{needs}
 use borrow.Author.Tests.{not-true, not-false}
 use Rattle.table_model.specs.Layout.{countOf, headerSound}
 use Rattle.call_touched.specs.declared.Reach.the-variants.{At}
-use Rattle.call_touched.specs.Reached.{touchedSound, Below}
+use Rattle.call_touched.specs.Steps.{touchedSound, Below}
 use Rattle.call_touched.proofs.Touch.{no-header, is-below, reaches, reaches-none}
 use Rattle.call_touched.proofs.reached_by.Statement.{statement}
 use Rattle.call_touched.proofs.reached_by.Tie as tie

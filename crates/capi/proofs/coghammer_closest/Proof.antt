@@ -37,10 +37,10 @@ use denote.Triple.Walked.{says, Stays, gave-slice, stay-dropped, walkOf, AllGo, 
 use denote.Exit.{yes}
 use Rattle.walk.proofs.Call.{Callee, the-contract, Tokens, Owned, Last, calls-known, calls-plain}
 use Rattle.octets.specs.Octets.{Bytes}
-use Rattle.entry.specs.declared.Node.{Node}
-use Rattle.entry.proofs.Node as TN
-use Rattle.closest_choice.specs.Closest.{chosen}
-use Rattle.closest_nodes.specs.Closest.{listed, listAfter}
+use Rattle.node.specs.declared.Node.{Node}
+use Rattle.node.proofs.Node as TN
+use Rattle.closest_choice.specs.Choice.{chosen}
+use Rattle.closest_nodes.specs.Listing.{listed, listAfter}
 use Rattle.closest_nodes.specs.declared.Listed.{Listed}
 use Rattle.closest_nodes.proofs.Chosen.{fits, answers}
 use Rattle.closest_nodes.proofs.Listed as TL

@@ -2,8 +2,8 @@
 use mathlib.Core.Path.{_≡_, refl, _∙_}
 use mathlib.Core.List.{List}
 use Prim.Native.Nat.{ℕ}
-use Rattle.packet.specs.declared.Packet.{Packet}
-use Rattle.packet.specs.declared.Packet.the-variants as packet
+use Rattle.packet.specs.declared.Parsed.{Parsed}
+use Rattle.packet.specs.declared.Parsed.the-variants as parsed
 use Rattle.packet_datagram.specs.Datagram.{packetIn}
 use Rattle.capi_packet.specs.Fields.{readNumber, fieldsAfter}
 use borrow.Author.Needs.{needs}
@@ -11,14 +11,9 @@ use Rattle.capi.proofs.coghammer_packet.Statement.{statement}
 use Rattle.capi.proofs.coghammer_packet.Tie as tie
 
 -- a number that is not 0 is a refused packet's
-kept : (p : Packet) (old : List ℕ) → (readNumber p ≡ 0 → ⊥) → old ≡ fieldsAfter p old
-kept (packet.Ping p) old h = absurd (h refl)
-kept (packet.Pong p) old h = absurd (h refl)
-kept (packet.FindNode p) old h = absurd (h refl)
-kept (packet.Neighbors p) old h = absurd (h refl)
-kept (packet.EnrRequest p) old h = absurd (h refl)
-kept (packet.EnrResponse p) old h = absurd (h refl)
-kept (packet.Refused n) old h = refl
+kept : (p : Parsed) (old : List ℕ) → (readNumber p ≡ 0 → ⊥) → old ≡ fieldsAfter p old
+kept (parsed.Packet p) old h = absurd (h refl)
+kept (parsed.Refused n) old h = refl
 
 returns : tie.Need-returns
 returns c =

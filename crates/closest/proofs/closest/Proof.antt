@@ -37,17 +37,17 @@ use denote.Triple.Table.{entered, cited}
 use denote.Triple.Walked.{says, Stays, gave-slice, stay-dropped, walkOf, AllGo, goes-gave-slice, goes-dropped, Walks, ends-at, walked, walk-meets}
 use denote.Exit.{yes}
 use Rattle.walk.proofs.Call.{Callee, the-contract, Tokens, Owned, Last, calls-known, calls-plain}
-use Rattle.entry.specs.declared.Node.{Node}
-use Rattle.entry.proofs.Node as TN
+use Rattle.node.specs.declared.Node.{Node}
+use Rattle.node.proofs.Node as TN
 use Rattle.closest_choice.specs.declared.Choice.{Choice}
-use Rattle.closest_choice.specs.Closest.{chosen}
+use Rattle.closest_choice.specs.Choice.{chosen}
 use Rattle.closest_choice.proofs.Choice as TC
 use Rattle.closest_choice.proofs.Choice.Laws as TC′
 use Rattle.closest_choice.proofs.closest_on as choose
 use Rattle.closest_choice.proofs.closest_on.Symbol as choose-def
 use Rattle.closest_choice.proofs.closest_on.Symbol.{name as #choose}
 use Rattle.closest_choice.proofs.closest_on.Met as choose-thm
-use Rattle.closest_nodes.specs.Closest.{numberAndCount, withChosen}
+use Rattle.closest_nodes.specs.Listing.{numberAndCount, withChosen}
 use Rattle.closest_nodes.specs.declared.Listed.{Listed}
 use Rattle.closest_nodes.proofs.Chosen.{fits, answers, writes}
 use Rattle.closest_nodes.proofs.Listed as TL

@@ -48,12 +48,12 @@ use denote.Triple.Walked.{says, needs, Stays, gave-slice, stay-dropped, walkOf, 
 use denote.Exit.{yes}
 use Rattle.walk.proofs.Call.{Callee, the-contract, Tokens, calls-known}
 use borrow.Author.Tests.{lt-ltb, le-ltb, ltb-true, ltb-false}
-use Rattle.closest_nodes.specs.Closest.{nodeAt, nowhere, chosenNode, withChosen}
-use Rattle.entry.specs.declared.Node.{Node}
+use Rattle.closest_nodes.specs.Listing.{nodeAt, nowhere, chosenNode, withChosen}
+use Rattle.node.specs.declared.Node.{Node}
 use Rattle.closest_choice.specs.declared.Choice.{Choice}
 use Rattle.closest.proofs.Written.{upto, upto-length, upto-next}
-use Rattle.entry.proofs.Node as TN
-use Rattle.entry.proofs.Node.Laws as TN′
+use Rattle.node.proofs.Node as TN
+use Rattle.node.proofs.Node.Laws as TN′
 use Rattle.closest_nearest.proofs.Near as TNear
 use Rattle.closest_choice.proofs.Choice as TC
 use Rattle.closest_choice.proofs.Choice.Laws as TC′

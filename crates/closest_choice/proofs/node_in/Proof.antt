@@ -7,7 +7,7 @@ use borrow.Author.Needs.{needs}
 use borrow.Author.Tests.{le-leb, lt-leb, lt-ltb, le-ltb}
 use lib.ListN.{length, getD}
 use Rattle.table_model.specs.Layout.{offsetOf}
-use Rattle.closest_choice.specs.Closest.{isThere}
+use Rattle.closest_choice.specs.Choice.{isThere}
 use Rattle.closest_choice.proofs.Chosen.{no-entry, some-entry}
 use Rattle.closest_choice.proofs.node_in.Statement.{statement}
 use Rattle.closest_choice.proofs.node_in.Tie as tie

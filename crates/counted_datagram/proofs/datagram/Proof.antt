@@ -58,10 +58,10 @@ use Rattle.counters.proofs.count as count
 use Rattle.counters.proofs.count.Symbol as count-def
 use Rattle.counters.proofs.count.Symbol.{name as #count}
 use Rattle.counters.proofs.count.Met as count-thm
-use Rattle.entry.proofs.MonotonicMillis as MonotonicMillis
-use Rattle.entry.proofs.MonotonicMillis.Laws as MonotonicMillis′
-use Rattle.entry.proofs.UnixSeconds as UnixSeconds
-use Rattle.entry.proofs.UnixSeconds.Laws as UnixSeconds′
+use Rattle.node.proofs.MonotonicMillis as MonotonicMillis
+use Rattle.node.proofs.MonotonicMillis.Laws as MonotonicMillis′
+use Rattle.node.proofs.UnixSeconds as UnixSeconds
+use Rattle.node.proofs.UnixSeconds.Laws as UnixSeconds′
 use Rattle.call_answer.proofs.number as number
 use Rattle.call_answer.proofs.number.Symbol as number-def
 use Rattle.call_answer.proofs.number.Symbol.{name as #number}

@@ -5,7 +5,7 @@ use Rattle.call_model.specs.Reading.{reading}
 use Rattle.call_datagram.specs.Received.{received}
 use Rattle.log_answer.specs.AnswerLine.{receivedRow}
 use Rattle.log_line.proofs.Decoded.{decoded}
-use Rattle.log_replay.proofs.LineCallsLines.{answered-three}
+use Rattle.log_replay.proofs.CallLines.{answered-three}
 use borrow.Author.Needs.{needs}
 use Rattle.log_replay.proofs.rx.Statement.{statement}
 use Rattle.log_replay.proofs.rx.Tie as tie

@@ -4,7 +4,7 @@ use Rattle.call_model.specs.Calls.{answerOn, bytesAfter}
 use Rattle.call_model.specs.Reading.{reading}
 use Rattle.log_answer.specs.AnswerRows.{numberRow}
 use Rattle.log_line.proofs.Decoded.{decoded}
-use Rattle.log_replay.proofs.LineCallsLines.{answered-three}
+use Rattle.log_replay.proofs.CallLines.{answered-three}
 use borrow.Author.Needs.{needs}
 use Rattle.log_replay.proofs.sent.Statement.{statement}
 use Rattle.log_replay.proofs.sent.Tie as tie

@@ -1,6 +1,6 @@
 -- `log_replay::sweep` meets its contract. Assumes nothing.
 use Rattle.log_answer.specs.AnswerRows.{numberRow}
-use Rattle.log_replay.proofs.LineCallsLines.{answered}
+use Rattle.log_replay.proofs.CallLines.{answered}
 use borrow.Author.Needs.{needs}
 use Rattle.log_replay.proofs.sweep.Statement.{statement}
 use Rattle.log_replay.proofs.sweep.Tie as tie

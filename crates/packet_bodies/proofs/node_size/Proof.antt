@@ -3,7 +3,7 @@ use mathlib.Core.Path.{_≡_, sym}
 use mathlib.Core.Bool.{true}
 use native.Mathlib.Omega.{arith}
 use lib.ListN.{length, take}
-use Rattle.packet_bodies.specs.Parts.{isAddress}
+use Rattle.node.specs.Nodes.{isAddress}
 use Rattle.packet_bodies.proofs.Nodes.{address-within, address-length, address-is}
 use Rattle.packet_bodies.proofs.Sizes as sizes
 use borrow.Author.Needs.{needs}

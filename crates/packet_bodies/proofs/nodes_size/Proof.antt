@@ -6,16 +6,16 @@ use mathlib.Core.List.{List, map}
 use native.Mathlib.Omega.{arith}
 use lib.ListN.{length, drop}
 use Rattle.packet_model.specs.Items.{nodeItem}
-use Rattle.entry.specs.declared.Node.{Node}
+use Rattle.node.specs.declared.Node.{Node}
 use Rattle.rlp.specs.Encoding.{encodes}
-use Rattle.packet_bodies.specs.Parts.{nodeItems, nodesOf, haveAddresses}
+use Rattle.packet_bodies.specs.Parts.{nodeItems, nodesIn, haveAddresses}
 use Rattle.packet_bodies.proofs.Nodes.{noNode, length-mapped, few, addresses, has-address, have-more, next-size, all-passed}
 use borrow.Author.Needs.{needs}
 use Rattle.packet_bodies.proofs.nodes_size.Statement.{statement}
 use Rattle.packet_bodies.proofs.nodes_size.Tie as tie
 
 abbrev Inv-loop : tie.InvT-loop
-Inv-loop list n size₀ i₀ size i = (i ≤ list .len) × (size ≤ 91 * i) × (haveAddresses (drop i (nodesOf list)) ≡ true) × (size + length (encodes (map nodeItem (drop i (nodesOf list)))) ≡ length (encodes (nodeItems list)))
+Inv-loop list n size₀ i₀ size i = (i ≤ list .len) × (size ≤ 91 * i) × (haveAddresses (drop i (nodesIn list)) ≡ true) × (size + length (encodes (map nodeItem (drop i (nodesIn list)))) ≡ length (encodes (nodeItems list)))
 
 abbrev μ-loop : tie.MeasureT-loop
 μ-loop list n size₀ i₀ size i = list .len - i

@@ -3,14 +3,14 @@ use Prim.Native.Nat.{_-_, _≤_}
 use mathlib.Core.Path.{_≡_, refl, sym, ap, _∙_}
 use native.Mathlib.Omega.{arith}
 use lib.ListN.{length, drop}
-use Rattle.packet_bodies.specs.Parts.{nodesOf, haveAddresses}
+use Rattle.packet_bodies.specs.Parts.{nodesIn, haveAddresses}
 use Rattle.packet_bodies.proofs.Nodes.{noNode, length-mapped, not-few, writable-by, passed, stopped, all-passed}
 use borrow.Author.Needs.{needs}
 use Rattle.packet_bodies.proofs.nodes_writable.Statement.{statement}
 use Rattle.packet_bodies.proofs.nodes_writable.Tie as tie
 
 abbrev Inv-loop : tie.InvT-loop
-Inv-loop list n i₀ i = (i ≤ list .len) × (list .len ≤ 12) × (haveAddresses (drop i (nodesOf list)) ≡ haveAddresses (nodesOf list))
+Inv-loop list n i₀ i = (i ≤ list .len) × (list .len ≤ 12) × (haveAddresses (drop i (nodesIn list)) ≡ haveAddresses (nodesIn list))
 
 abbrev μ-loop : tie.MeasureT-loop
 μ-loop list n i₀ i = list .len - i

@@ -7,7 +7,7 @@ use lib.ListN.{length}
 use Rattle.octets.specs.Octets.{Bytes}
 use Rattle.rlp.specs.Encoding.{header, encode, encodes}
 use Rattle.packet_model.specs.Items.{endpoint}
-use Rattle.packet_bodies.specs.Parts.{fields}
+use Rattle.packet_bodies.specs.Parts.{endpointItems}
 use Rattle.octets.proofs.Progress.{Progress, concat, start, room, step, finish}
 use Rattle.packet_bodies.proofs.Sizes.{framed}
 use borrow.Author.Needs.{needs}
@@ -17,12 +17,12 @@ use Rattle.packet_bodies.proofs.put_endpoint.Tie as tie
 abbrev pieces : tie.After-fields-size → List Bytes
 pieces c =
     let a = c .before .before .before .args in
-    header 0xc0 (c .fields-size .result) ∷ encodes (fields (a .address .now) (a .udp) (a .tcp)) ∷ []
+    header 0xc0 (c .fields-size .result) ∷ encodes (endpointItems (a .address .now) (a .udp) (a .tcp)) ∷ []
 
 pieces-are : (c : tie.After-fields-size) → let a = c .before .before .before .args in concat (pieces c) ≡ encode (endpoint (a .address .now) (a .udp) (a .tcp))
 pieces-are c =
     let a = c .before .before .before .args in
-    let items : Bytes = encodes (fields (a .address .now) (a .udp) (a .tcp)) in
+    let items : Bytes = encodes (endpointItems (a .address .now) (a .udp) (a .tcp)) in
     ap (λ (x : Bytes). header 0xc0 (c .fields-size .result) ++ x) (append-nil items) ∙ framed (c .fields-size .result) items (c .fields-size .ensures .0)
 
 begun : (c : tie.After-fields-size) → let a = c .before .before .before .args in Progress (a .buf .now) (a .at) (pieces c) (pieces c) (a .buf .now) (a .at)

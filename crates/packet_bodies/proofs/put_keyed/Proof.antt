@@ -7,7 +7,7 @@ use lib.ListN.{length}
 use Rattle.octets.specs.Octets.{Bytes}
 use Rattle.rlp.specs.Encoding.{header, encode, encodes, string}
 use Rattle.packet_model.specs.Items.{node}
-use Rattle.packet_bodies.specs.Parts.{fields}
+use Rattle.packet_bodies.specs.Parts.{endpointItems}
 use Rattle.octets.proofs.Progress.{Progress, concat, start, room, step, finish}
 use Rattle.packet_bodies.proofs.Sizes.{framed, keyed, keyed-size, encodes-append}
 use borrow.Author.Needs.{needs}
@@ -17,14 +17,14 @@ use Rattle.packet_bodies.proofs.put_keyed.Tie as tie
 abbrev all : tie.After-fields-size → List Bytes
 all c =
     let a = c .before .before .before .before .args in
-    header 0xc0 (c .fields-size .result + 66) ∷ encodes (fields (a .address .now) (a .udp) (a .tcp)) ∷ encode (string (a .key .now)) ∷ []
+    header 0xc0 (c .fields-size .result + 66) ∷ encodes (endpointItems (a .address .now) (a .udp) (a .tcp)) ∷ encode (string (a .key .now)) ∷ []
 
 all-is : (c : tie.After-fields-size) → let a = c .before .before .before .before .args in concat (all c) ≡ encode (node (a .address .now) (a .udp) (a .tcp) (a .key .now))
 all-is c =
     let s = c .before .before .before .before in
     let a = s .args in
     let size = c .fields-size .result + 66 in
-    ap (λ (x : Bytes). header 0xc0 size ++ x) (sym (encodes-append (fields (a .address .now) (a .udp) (a .tcp)) (string (a .key .now) ∷ [])))
+    ap (λ (x : Bytes). header 0xc0 size ++ x) (sym (encodes-append (endpointItems (a .address .now) (a .udp) (a .tcp)) (string (a .key .now) ∷ [])))
     ∙ framed size (encodes (keyed (a .address .now) (a .udp) (a .tcp) (a .key .now))) (omega (arith, c .fields-size .ensures .0, keyed-size (a .address .now) (a .udp) (a .tcp) (a .key .now) (s .pre .0) (s .pre .1)))
 
 begun : (c : tie.After-fields-size) → let a = c .before .before .before .before .args in Progress (a .buf .now) (a .at) (all c) (all c) (a .buf .now) (a .at)

@@ -6,8 +6,8 @@ use mathlib.Core.List.{List, map}
 use native.Mathlib.Omega.{arith}
 use lib.ListN.{length, drop}
 use Rattle.packet_model.specs.Items.{nodeItem}
-use Rattle.entry.specs.declared.Node.{Node}
-use Rattle.packet_bodies.specs.Parts.{nodeItems, nodesOf, haveAddresses}
+use Rattle.node.specs.declared.Node.{Node}
+use Rattle.packet_bodies.specs.Parts.{nodeItems, nodesIn, haveAddresses}
 use Rattle.octets.proofs.Progress.{Progress, start, room, step, renamed, finish}
 use Rattle.packet_bodies.proofs.Pieces.{pieces, concat-pieces}
 use Rattle.packet_bodies.proofs.Nodes.{noNode, length-mapped, few, addresses, has-address, have-more, next-piece, all-passed}
@@ -16,7 +16,7 @@ use Rattle.packet_bodies.proofs.put_nodes.Statement.{statement}
 use Rattle.packet_bodies.proofs.put_nodes.Tie as tie
 
 abbrev Inv-loop : tie.InvT-loop
-Inv-loop buf₀ at list n next₀ i₀ buf next i = (i ≤ list .len) × (length buf ≡ length buf₀) × (haveAddresses (drop i (nodesOf list)) ≡ true) × Progress buf₀ at (pieces (nodeItems list)) (pieces (map nodeItem (drop i (nodesOf list)))) buf next
+Inv-loop buf₀ at list n next₀ i₀ buf next i = (i ≤ list .len) × (length buf ≡ length buf₀) × (haveAddresses (drop i (nodesIn list)) ≡ true) × Progress buf₀ at (pieces (nodeItems list)) (pieces (map nodeItem (drop i (nodesIn list)))) buf next
 
 abbrev μ-loop : tie.MeasureT-loop
 μ-loop buf₀ at list n next₀ i₀ buf next i = list .len - i

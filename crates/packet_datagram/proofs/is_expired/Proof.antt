@@ -33,11 +33,9 @@ is-expired-spec =
     (λ c. search needs)
     (λ c κs. search needs)
     (λ c. search needs)
-    (λ c. search needs)
     returns
     returns-2
     returns-3
     returns-4
     returns-5
-    (λ c. search needs)
     (λ c. search needs))

@@ -18,9 +18,6 @@ returns-5 c = rw (c .enum-told4 .given .1)
 returns-6 : tie.Need-returns-6
 returns-6 c = rw (c .enum-told5 .given .1)
 
-returns-7 : tie.Need-returns-7
-returns-7 c = rw (c .enum-told6 .given .1)
-
 pub record-span-spec : {M : Type 1} → statement M
 record-span-spec =
     tie.close
@@ -32,10 +29,8 @@ record-span-spec =
     (λ c. search needs)
     (λ c. search needs)
     (λ c. search needs)
-    (λ c. search needs)
     returns-2
     returns-3
     returns-4
     returns-5
-    returns-6
-    returns-7)
+    returns-6)

@@ -1,5 +1,4 @@
 -- `packet_schema::is_leaf` meets its contract. Assumes nothing.
-use borrow.Author.Tests.{eq-eqb, ne-eqb}
 use borrow.Author.Needs.{needs}
 use Rattle.packet_schema.proofs.is_leaf.Statement.{statement}
 use Rattle.packet_schema.proofs.is_leaf.Tie as tie
@@ -14,10 +13,7 @@ returns-4 : tie.Need-returns-4
 returns-4 c = simp (c .before .kind2 .given .1, c .before .before .before .if1 .left)
 
 returns-5 : tie.Need-returns-5
-returns-5 c = simp (c .before .enum-told2 .given .1, c .before .before .before .if1 .left, eq-eqb _ _ (c .if2 .taken))
-
-returns-6 : tie.Need-returns-6
-returns-6 c = simp (c .before .enum-told2 .given .1, c .before .before .before .if1 .left, ne-eqb _ _ (c .if2 .left))
+returns-5 c = simp (c .before .enum-told2 .given .1, c .before .before .before .if1 .left, c .is-address-size .ensures)
 
 pub is-leaf-spec : {M : Type 1} → statement M
 is-leaf-spec =
@@ -30,6 +26,7 @@ is-leaf-spec =
     (λ c. search needs)
     (λ c. search needs)
     (λ c. search needs)
+    (λ c κs. search needs)
     (λ c. search needs)
     (λ c. search needs)
     (λ c. search needs)
@@ -37,7 +34,6 @@ is-leaf-spec =
     returns-3
     returns-4
     returns-5
-    returns-6
     (λ c. search needs)
     (λ c. search needs)
     (λ c. search needs))

@@ -2,7 +2,7 @@
 use mathlib.Core.Path.{ap}
 use Prim.Native.Nat.{ℕ}
 use lib.Dec.{leb}
-use Rattle.packet_schema.proofs.SchemaItemsTurns.{list-size}
+use Rattle.packet_schema.proofs.ItemTurns.{list-size}
 use borrow.Author.Needs.{needs}
 use Rattle.packet_schema.proofs.is_record.Statement.{statement}
 use Rattle.packet_schema.proofs.is_record.Tie as tie

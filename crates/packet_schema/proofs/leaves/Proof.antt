@@ -11,7 +11,7 @@ use Rattle.octets.proofs.Laws.{part-rest}
 use Rattle.packet_schema.specs.Payload.{itemsOf}
 use Rattle.packet_schema.specs.Kinds as spec
 use Rattle.packet_schema.specs.declared.Kind.the-variants.{Uint}
-use Rattle.packet_schema.proofs.SchemaItemsTurns.{leaves-none, leaves-item, leaves-stop, leaves-end}
+use Rattle.packet_schema.proofs.ItemTurns.{leaves-none, leaves-item, leaves-stop, leaves-end}
 use borrow.Author.Needs.{needs}
 use Rattle.packet_schema.proofs.leaves.Statement.{statement}
 use Rattle.packet_schema.proofs.leaves.Tie as tie

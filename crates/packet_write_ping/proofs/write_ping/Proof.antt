@@ -5,11 +5,12 @@ use mathlib.Core.Bool.{true}
 use mathlib.Core.List.{List, [], _∷_, _++_, append-nil}
 use native.Mathlib.Omega.{arith}
 use lib.ListN.{length}
+use Rattle.node.specs.Nodes.{isAddress}
 use Rattle.octets.specs.Octets.{Bytes}
 use Rattle.rlp.specs.Encoding.{Item, encode, encodes}
 use Rattle.rlp.proofs.Writing.{uint-size-small}
 use Rattle.packet_model.specs.Items.{uint, endpoint, pingItems, enrSeqItems}
-use Rattle.packet_bodies.specs.Parts.{isAddress, lastItems}
+use Rattle.packet_bodies.specs.Parts.{lastItems}
 use Rattle.lists.proofs.Laws.{and-left, and-right}
 use Rattle.packet_bodies.proofs.Sizes.{total-size}
 use Rattle.octets.proofs.Progress.{concat, room, step}

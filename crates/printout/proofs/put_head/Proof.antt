@@ -9,7 +9,7 @@ use Rattle.octets.proofs.Progress.{Progress, concat, start, room, step, finish}
 use Rattle.printout_rows.proofs.Rows.{pieces}
 use Rattle.printout.specs.declared.Totals.{Totals}
 use Rattle.printout.specs.TableRow.{tableWord, tableRow}
-use Rattle.printout.proofs.PrintoutHeadRows.{head-parts}
+use Rattle.printout.proofs.HeadRows.{head-parts}
 use Rattle.printout.proofs.Slots.{header-in}
 use borrow.Author.Needs.{needs}
 use Rattle.printout.proofs.put_head.Statement.{statement}

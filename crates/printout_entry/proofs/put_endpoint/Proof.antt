@@ -8,7 +8,7 @@ use lib.Seq.{length-take-le}
 use Rattle.octets.specs.Octets.{Bytes}
 use Rattle.text.specs.Decimals.{decimal}
 use Rattle.text.specs.Hex.{hex}
-use Rattle.entry.specs.Nodes.{addressOf}
+use Rattle.node.specs.Nodes.{addressOf}
 use Rattle.octets.proofs.Progress.{Progress, start, room, step, finish}
 use borrow.Author.Needs.{needs}
 use Rattle.printout_entry.proofs.put_endpoint.Statement.{statement}

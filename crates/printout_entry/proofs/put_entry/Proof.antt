@@ -6,7 +6,7 @@ use lib.ListN.{length}
 use Rattle.octets.specs.Octets.{Bytes}
 use Rattle.text.specs.Decimals.{decimal}
 use Rattle.text.specs.Hex.{hex}
-use Rattle.entry.specs.Nodes.{addressOf}
+use Rattle.node.specs.Nodes.{addressOf}
 use Rattle.printout_rows.specs.Rows.{keyText, pingText}
 use Rattle.octets.proofs.Progress.{Progress, concat, start, room, step, finish}
 use Rattle.printout_entry.specs.EntryRow.{proofText, entryRow}

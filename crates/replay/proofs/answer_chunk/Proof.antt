@@ -3,7 +3,7 @@ use Prim.Native.Nat.{_≤_}
 use mathlib.Core.Path.{_≡_, refl, _∙_}
 use native.Mathlib.Omega.{arith}
 use lib.ListN.{length}
-use Rattle.replay.specs.Progress.{Ready, left}
+use Rattle.replay.specs.Steps.{Ready, left}
 use Rattle.replay.proofs.Ready.{going-on}
 use Rattle.replay.proofs.answer_chunk.Statement.{statement}
 use Rattle.replay.proofs.answer_chunk.Tie as tie

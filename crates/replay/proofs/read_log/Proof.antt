@@ -2,7 +2,7 @@
 use mathlib.Core.Path.{_≡_, refl, _∙_}
 use native.Mathlib.Omega.{arith}
 use lib.ListN.{length}
-use Rattle.replay.specs.Progress.{Ready}
+use Rattle.replay.specs.Steps.{Ready}
 use Rattle.replay.proofs.Ready.{going-on}
 use Rattle.replay.proofs.read_log.Statement.{statement}
 use Rattle.replay.proofs.read_log.Tie as tie

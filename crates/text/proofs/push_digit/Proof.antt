@@ -19,7 +19,7 @@ returns-4 : tie.Need-returns-4
 returns-4 c = let a = c .before .before .before .before .before .args in rw (le-leb 48 (a .b) (c .before .before .before .before .if1 .left), le-leb (a .b) 57 (c .before .before .before .if2 .left), lt-leb (a .a * 10 + (a .b - 48)) (a .limit) (omega arith))
 
 returns-5 : tie.Need-returns-5
-returns-5 c = let a = c .before .before .before .before .before .args in rw (le-leb 48 (a .b) (c .before .before .before .before .if1 .left), le-leb (a .b) 57 (c .before .before .before .if2 .left), le-leb (a .a * 10 + (a .b - 48)) (a .limit) (omega arith), c .before .before .wide .ensures)
+returns-5 c = let a = c .before .before .before .before .before .args in rw (le-leb 48 (a .b) (c .before .before .before .before .if1 .left), le-leb (a .b) 57 (c .before .before .before .if2 .left), le-leb (a .a * 10 + (a .b - 48)) (a .limit) (omega arith), c .before .before .wide .ensures .0)
 
 pub push-digit-spec : {M : Type 1} → statement M
 push-digit-spec = tie.close (tie.spec returns returns-2 (λ c κs. search needs) returns-3 (λ c. search needs) (λ c. search needs) returns-4 (λ c. search needs) (λ c. search needs) returns-5)

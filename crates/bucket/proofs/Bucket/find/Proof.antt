@@ -2,7 +2,7 @@
 use mathlib.Core.Path.{_≡_}
 use native.Mathlib.Omega.{arith}
 use lib.ListN.{length}
-use Rattle.bucket.specs.Values.{listed}
+use Rattle.bucket.specs.Steps.{listed}
 use Rattle.bucket.proofs.Laws.{length-mapped, length-listed, in-entries, in-replacements, in-neither}
 use borrow.Author.Needs.{needs}
 use Rattle.bucket.proofs.Bucket.find.Statement.{statement}

@@ -15,7 +15,7 @@ items-size c = search (needs, length-mapped)
 returns : tie.Need-returns
 returns c = let start = c .before .before in
     let b = start .args .self in
-    sym (ap (λ n. ltb n 16) (length-listed (b .entries) (items-size start) (start .pre .entries)))
+    sym (ap (λ n. ltb n 16) (length-listed (b .entries) (items-size start) (start .pre)))
 
 pub free-entry-spec : {M : Type 1} → statement M
 free-entry-spec = tie.close (tie.spec returns)

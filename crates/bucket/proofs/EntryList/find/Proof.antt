@@ -5,7 +5,7 @@ use native.Mathlib.Omega.{arith}
 use borrow.Author.Needs.{needs}
 use lib.ListN.{length, take}
 use Rattle.bucket_model.specs.Rules.{isOf}
-use Rattle.bucket.specs.Values.{indexOf}
+use Rattle.bucket.specs.Steps.{indexOf}
 use Rattle.bucket.proofs.Laws.{length-mapped, find-found, find-turn, find-none}
 use borrow.Author.Needs.{needs}
 use Rattle.bucket.proofs.EntryList.find.Statement.{statement}

@@ -7,7 +7,7 @@ use lib.ListN.{length, take, length-set}
 use Rattle.octets.specs.Octets.{cut}
 use Rattle.octets.proofs.Laws.{cut-turn}
 use Rattle.entry.specs.Layout.{noEntry}
-use Rattle.bucket.specs.Values.{listed, removeAt}
+use Rattle.bucket.specs.Steps.{listed, removeAt}
 use Rattle.bucket.proofs.Laws.{remove-holds, length-mapped}
 use Rattle.bucket.proofs.EntryList.remove.Statement.{statement}
 use Rattle.bucket.proofs.EntryList.remove.Tie as tie

@@ -2,7 +2,7 @@
 use mathlib.Core.Path.{ap}
 use mathlib.Core.Bool.{not}
 use Rattle.bucket_model.specs.Rules.{isAt}
-use Rattle.bucket_rules.proofs.BucketLookupLaws.{any-found}
+use Rattle.bucket_rules.proofs.LookupLaws.{any-found}
 use borrow.Author.Needs.{needs}
 use Rattle.bucket_rules.proofs.Lookup.held_elsewhere.Statement.{statement}
 use Rattle.bucket_rules.proofs.Lookup.held_elsewhere.Tie as tie

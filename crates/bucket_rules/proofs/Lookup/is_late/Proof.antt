@@ -1,6 +1,6 @@
 -- `bucket_rules::Lookup::is_late` meets its contract. Assumes nothing.
 use Rattle.bucket_model.specs.Rules.{isOverdue}
-use Rattle.bucket_rules.proofs.BucketLookupLaws.{any-found}
+use Rattle.bucket_rules.proofs.LookupLaws.{any-found}
 use borrow.Author.Needs.{needs}
 use Rattle.bucket_rules.proofs.Lookup.is_late.Statement.{statement}
 use Rattle.bucket_rules.proofs.Lookup.is_late.Tie as tie

@@ -1,6 +1,6 @@
 -- `bucket_rules::Lookup::no_room` meets its contract. Assumes nothing.
 use lib.Dec.{leb}
-use Rattle.bucket_rules.proofs.BucketLookupLaws.{room}
+use Rattle.bucket_rules.proofs.LookupLaws.{room}
 use borrow.Author.Needs.{needs}
 use Rattle.bucket_rules.proofs.Lookup.no_room.Statement.{statement}
 use Rattle.bucket_rules.proofs.Lookup.no_room.Tie as tie

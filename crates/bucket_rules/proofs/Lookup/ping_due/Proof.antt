@@ -3,7 +3,7 @@ use mathlib.Core.Path.{ap}
 use mathlib.Core.Bool.{not, _&&_}
 use Rattle.bucket_entry.proofs.Laws.{joined}
 use Rattle.bucket_model.specs.Rules.{isAt, isVerified, isOut}
-use Rattle.bucket_rules.proofs.BucketLookupLaws.{held-or, held-and}
+use Rattle.bucket_rules.proofs.LookupLaws.{held-or, held-and}
 use borrow.Author.Needs.{needs}
 use Rattle.bucket_rules.proofs.Lookup.ping_due.Statement.{statement}
 use Rattle.bucket_rules.proofs.Lookup.ping_due.Tie as tie

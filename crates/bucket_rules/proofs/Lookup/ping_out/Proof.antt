@@ -1,6 +1,6 @@
 -- `bucket_rules::Lookup::ping_out` meets its contract. Assumes nothing.
 use Rattle.bucket_model.specs.Rules.{isOut}
-use Rattle.bucket_rules.proofs.BucketLookupLaws.{any-found}
+use Rattle.bucket_rules.proofs.LookupLaws.{any-found}
 use borrow.Author.Needs.{needs}
 use Rattle.bucket_rules.proofs.Lookup.ping_out.Statement.{statement}
 use Rattle.bucket_rules.proofs.Lookup.ping_out.Tie as tie

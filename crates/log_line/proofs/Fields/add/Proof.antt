@@ -4,7 +4,7 @@ use mathlib.Core.Path.{_≡_, sym, ap}
 use mathlib.Core.List.{List}
 use lib.ListN.{length}
 use lib.Seq.{set-out}
-use Rattle.log_line.specs.declared.Span.{Span}
+use Rattle.packet_span.specs.declared.Span.{Span}
 use Rattle.log_line.proofs.Spans.{length-mapped}
 use borrow.Author.Needs.{needs}
 use native.Mathlib.Omega.{arith}

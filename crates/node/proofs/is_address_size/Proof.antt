@@ -1,0 +1,13 @@
+-- `node::is_address_size` meets its contract. Assumes nothing.
+use borrow.Author.Tests.{eq-eqb, ne-eqb}
+use Rattle.node.proofs.is_address_size.Statement.{statement}
+use Rattle.node.proofs.is_address_size.Tie as tie
+
+returns : tie.Need-returns
+returns c = simp (eq-eqb _ _ (c .if1 .taken))
+
+returns-2 : tie.Need-returns-2
+returns-2 c = simp (ne-eqb _ _ (c .if1 .left))
+
+pub is-address-size-spec : {M : Type 1} → statement M
+is-address-size-spec = tie.close (tie.spec returns returns-2)
