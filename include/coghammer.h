@@ -121,6 +121,12 @@ uint32_t coghammer_write_find_node(uint8_t *buf, size_t buf_len, const uint8_t *
 // A Neighbors of 0 to 12 nodes, packed by coghammer_pack_node one after the other; nodes_len is in bytes.
 uint32_t coghammer_write_neighbors(uint8_t *buf, size_t buf_len, const uint8_t *nodes, size_t nodes_len, uint64_t expiration);
 
+// A reply to a FindNode: how many Neighbors packets its nodes take (12 in each, and one packet of none), and of packet k, counted from 0, the first
+// node and how many: 16 nodes are 12, then 4. Past the last packet a length of 0.
+size_t coghammer_reply_count(size_t nodes);
+size_t coghammer_reply_start(size_t nodes, size_t k);
+size_t coghammer_reply_len(size_t nodes, size_t k);
+
 // An ENRRequest.
 uint32_t coghammer_write_enr_request(uint8_t *buf, size_t buf_len, uint64_t expiration);
 

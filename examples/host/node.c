@@ -6,7 +6,7 @@
 #include <time.h>
 #include <unistd.h>
 
-enum { LARGEST = 1280, BODY_ROOM = LARGEST - 97, PACKED = COGHAMMER_PACKED_NODE, FULL_PACKET = 12, CLOSEST = 16, ASKED = 3 };
+enum { LARGEST = 1280, BODY_ROOM = LARGEST - 97, PACKED = COGHAMMER_PACKED_NODE, CLOSEST = 16, ASKED = 3 };
 
 // ---- the two clocks, and neither is ever taken for the other
 
@@ -100,17 +100,17 @@ size_t node_ask(node *n) {
     return count;
 }
 
-// The closest nodes in packets of at most twelve; none is one packet with an empty list.
+// The closest nodes, in as many packets as they take.
 static void send_closest(node *n, const coghammer_node *to, const uint8_t *target) {
     coghammer_node list[CLOSEST];
-    uint8_t packed[FULL_PACKET * PACKED], body[BODY_ROOM];
-    size_t count = closest(n, target, list), done = 0;
-    do {
-        size_t part = count - done < FULL_PACKET ? count - done : FULL_PACKET;
-        for (size_t i = 0; i < part; i++) coghammer_pack_node(packed + i * PACKED, &list[done + i]);
-        send_body(n, to, body, coghammer_write_neighbors(body, sizeof body, packed, part * PACKED, expiration()));
-        done += part;
-    } while (done < count);
+    uint8_t packed[CLOSEST * PACKED], body[BODY_ROOM];
+    size_t count = closest(n, target, list);
+    for (size_t i = 0; i < count; i++) coghammer_pack_node(packed + i * PACKED, &list[i]);
+    for (size_t k = 0; k < coghammer_reply_count(count); k++) {
+        const uint8_t *part = packed + coghammer_reply_start(count, k) * PACKED;
+        size_t len = coghammer_reply_len(count, k) * PACKED;
+        send_body(n, to, body, coghammer_write_neighbors(body, sizeof body, part, len, expiration()));
+    }
     n->full_replies += count == CLOSEST;
 }
 

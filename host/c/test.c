@@ -158,6 +158,18 @@ static void neighbors(void) {
     coghammer_node_at(datagram, len, start, size, 11, key, at, numbers);
     CHECK(all(key, 64, 12) && memcmp(at, node.endpoint.address, 16) == 0);
     CHECK(numbers[0] == 4 && numbers[1] == 30303 && numbers[2] == 30304);
+    // the packets of a reply: by plain arithmetic
+    for (size_t nodes = 0; nodes < 100; nodes++) {
+        size_t packets = nodes ? (nodes + 11) / 12 : 1, done = 0;
+        CHECK(coghammer_reply_count(nodes) == packets);
+        for (size_t k = 0; k < packets; k++) {
+            size_t part = nodes - done < 12 ? nodes - done : 12;
+            CHECK(coghammer_reply_start(nodes, k) == done && coghammer_reply_len(nodes, k) == part);
+            done += part;
+        }
+        CHECK(done == nodes && coghammer_reply_len(nodes, packets + 1) == 0);
+    }
+    CHECK(coghammer_reply_len(SIZE_MAX, SIZE_MAX) == 0 && coghammer_reply_count(SIZE_MAX) == SIZE_MAX / 12 + 1);
     coghammer_node_at(datagram, len, start, size, 12, key, at, numbers);
     CHECK(all(key, 64, 0) && all(at, 16, 0) && numbers[0] == 0 && numbers[1] == 0 && numbers[2] == 0);
 }

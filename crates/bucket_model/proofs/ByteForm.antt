@@ -15,8 +15,11 @@ use Rattle.entry.specs.declared.Entry.{Entry}
 use Rattle.entry.specs.declared.EndpointProof.the-variants.{Unproved, At}
 use Rattle.entry.specs.declared.PingState.the-variants.{Quiet, Out}
 use Rattle.entry.specs.Layout.{encodeEntry, decodeEntry, noEntry}
-use Rattle.entry.proofs.Laws.{IsEntry, ProofFits, PingFits, decode-encode, length-encodeEntry, decode-entry, decode-endpoint, decode-stamp}
+use Rattle.entry.specs.Values.{IsEntry, ProofFits, PingFits}
+use Rattle.entry.proofs.Laws.{decode-encode, length-encodeEntry, decode-entry, decode-endpoint, decode-stamp}
 use Rattle.bucket_model.specs.Contents.{Contents, entriesAt, encodeEntries, encodeList, encodeBucket, decodeBucket}
+pub use Rattle.bucket_model.specs.Facts.{IsContents}
+use Rattle.bucket_model.specs.Claims.{EncodeInjective}
 
 -- ---- entries in bytes
 
@@ -87,13 +90,6 @@ decode-bucket s at h n m =
 
 -- ---- what a bucket holds is read back from its byte form
 
--- contents that a bucket can hold
-pub record IsContents (m : Contents) : Type 0 where
-  pub entries : All IsEntry (m .entries)
-  pub replacements : All IsEntry (m .replacements)
-  pub most : length (m .entries) ≤ 16
-  pub mostWaiting : length (m .replacements) ≤ 4
-
 size : (e : Entry) → IsEntry e → length (encodeEntry e) ≡ 143
 size e h = length-encodeEntry e (h .key) (h .address) (h .hash)
 
@@ -142,8 +138,7 @@ decode-encode-bucket m h =
     ap (λ xs. record { entries = xs; replacements = entriesAt s 2290 (length (m .replacements)) }) entries
     ∙ ap (λ xs. record { entries = m .entries; replacements = xs }) replacements
 
--- two contents with the same bytes are the same
-pub encode-injective : (m n : Contents) → IsContents m → IsContents n → encodeBucket m ≡ encodeBucket n → m ≡ n
+pub encode-injective : EncodeInjective
 encode-injective m n hm hn e = sym (decode-encode-bucket m hm) ∙ ap decodeBucket e ∙ decode-encode-bucket n hn
 
 -- ---- what bytes hold is what a bucket can hold

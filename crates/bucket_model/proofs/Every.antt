@@ -5,16 +5,13 @@ use mathlib.Core.Bool.{true}
 use lib.Dec.{ltb}
 use lib.ListN.{length}
 use Rattle.octets.specs.Octets.{Bytes}
-use Rattle.lists.specs.Lists.{select, empty, All}
+use Rattle.lists.specs.Lists.{select, empty}
 use Rattle.lists.proofs.Laws.{byTest, All-select, All-append, All-map}
 use Rattle.entry.specs.declared.Entry.{Entry}
 use Rattle.bucket_model.specs.Contents.{Contents}
 use Rattle.bucket_model.specs.Rules.{maxEntries, ofKey, isOf, held, toTail, pinged, ponged, heard, newEntry, staysEntry, staysReplacement, freeAfter, onPingSent, onPong, onHeard, onSweep}
+pub use Rattle.bucket_model.specs.Facts.{Every}
 use Rattle.bucket_model.proofs.Keys.{All-update, All-toTail, All-promoted, All-remaining}
-
--- P holds of every entry and of every replacement
-abbrev pub Every : (Entry → Type 0) → Contents → Type 0
-Every P m = All P (m .entries) × All P (m .replacements)
 
 module _ (P : Entry → Type 0) (now : ℕ) (m : Contents) (every : Every P m) where
   pub every-pingSent : (key address : Bytes) (udp tcp : ℕ) (hash : Bytes)

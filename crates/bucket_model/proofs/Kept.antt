@@ -21,8 +21,9 @@ use Rattle.bucket_model.specs.Contents.{Contents, noContents}
 use Rattle.bucket_model.specs.Rules.{maxEntries, maxReplacements, isOf, ofKey, without, update, toTail, held, isProved, isOut, noRoom, endpointOf, pinged, ponged, heard, newEntry, promoted, staysEntry, staysReplacement, freeAfter, onPingSent, onPong, onHeard, onSweep}
 use Rattle.bucket_model.specs.Sound.{addressForm}
 use Rattle.bucket_model.proofs.Keys.{count-update, count-toTail, count-moved, length-toTail, All-update, All-toTail, All-remaining, promoted-proved, length-promoted, length-remaining, promoted-all, promoted-or-remaining}
-use Rattle.bucket_model.proofs.Every.{Every, every-pingSent, every-pong, every-heard, every-sweep}
-use Rattle.bucket_model.proofs.Sound.{IsAddress, ProofBy, PingBy, EntrySound, BucketSound}
+use Rattle.bucket_model.specs.Facts.{Every, ProofBy, PingBy, EntrySound, BucketSound}
+use Rattle.bucket_model.proofs.Every.{every-pingSent, every-pong, every-heard, every-sweep}
+use Rattle.bucket_model.proofs.Sound.{IsAddress}
 
 -- ---- an address in the 16 bytes that hold it
 

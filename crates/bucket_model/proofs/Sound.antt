@@ -1,5 +1,5 @@
--- A sound bucket as a record of facts, and that the test `keepsRules`, with the two bounds, is exactly that.
-use Prim.Native.Nat.{ℕ, _+_, _<_, _≤_}
+-- The test `keepsRules`, with the two bounds, is exactly the facts of a sound bucket.
+use Prim.Native.Nat.{ℕ, _≤_}
 use mathlib.Core.Path.{_≡_, refl}
 use mathlib.Core.Logic.{_⊎_}
 use mathlib.Core.Bool.{Bool, true, false, not, _&&_, _||_}
@@ -20,38 +20,12 @@ use Rattle.entry.specs.declared.PingState.the-variants.{Quiet, Out}
 use Rattle.bucket_model.specs.Contents.{Contents}
 use Rattle.bucket_model.specs.Rules.{maxEntries, maxReplacements, isOf, ofKey, isProved, isOut}
 use Rattle.bucket_model.specs.Sound.{proofBy, pingBy, inTime, addressForm, entrySound, mayWait, distinct, isFull, keepsRules}
+use Rattle.bucket_model.specs.Facts.{ProofBy, PingBy}
+pub use Rattle.bucket_model.specs.Facts.{EntrySound, BucketSound}
 
 -- an address of 4 or 16 bytes
 abbrev pub IsAddress : Bytes → Type 0
 IsAddress address = (length address ≡ 4) ⊎ (length address ≡ 16)
-
-abbrev pub ProofBy : ℕ → EndpointProof → Type 0
-ProofBy clock Unproved = Unit {0}
-ProofBy clock (At t) = t .0 ≤ clock
-
-abbrev pub PingBy : ℕ → PingState → Type 0
-PingBy clock Quiet = Unit {0}
-PingBy clock (Out t) = t .0 ≤ clock
-
--- the key belongs to this bucket, no time is above the clock, and unused bytes of the address are zero
-pub record EntrySound (home : Bytes → Bool) (clock : ℕ) (p : Entry) : Type 0 where
-  pub at-home : home (p .key) ≡ true
-  pub seen-by : p .seen .0 ≤ clock
-  pub proof-by : ProofBy clock (p .proof)
-  pub ping-by : PingBy clock (p .ping)
-  pub address-form : addressForm (p .endpoint) ≡ true
-
-pub record BucketSound (home : Bytes → Bool) (clock : ℕ) (m : Contents) : Type 0 where
-  pub entries-sound : All (EntrySound home clock) (m .entries)
-  pub replacements-sound : All (EntrySound home clock) (m .replacements)
-  -- no node stands in it twice
-  pub once : (key : Bytes) → length (ofKey key (m .entries)) + length (ofKey key (m .replacements)) ≤ 1
-  pub entries-bound : length (m .entries) ≤ maxEntries
-  pub replacements-bound : length (m .replacements) ≤ maxReplacements
-  pub entries-proved : All (λ p. isProved (p .proof) ≡ true) (m .entries)
-  pub unproved-pinged : All (λ p. (isProved (p .proof) || isOut (p .ping)) ≡ true) (m .replacements)
-  -- proved replacements only where every entry is taken
-  pub full : length (m .entries) < maxEntries → All (λ p. isProved (p .proof) ≡ false) (m .replacements)
 
 -- ---- one entry
 

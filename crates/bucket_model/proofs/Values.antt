@@ -7,14 +7,15 @@ use native.Mathlib.Omega.{arith}
 use lib.ListN.{length, length-append, length-replicate}
 use Rattle.octets.specs.Octets.{Bytes, IsBytes}
 use Rattle.entry.specs.declared.Entry.{Entry}
-use Rattle.entry.proofs.Laws.{IsEntry}
+use Rattle.entry.specs.Values.{IsEntry}
 use Rattle.bucket_model.specs.Contents.{Contents, encodeBucket, decodeBucket}
 use Rattle.bucket_model.specs.Rules.{pinged, ponged, heard, newEntry, onPingSent, onPong, onHeard, onSweep}
 use Rattle.bucket_model.specs.Sound.{sound}
-use Rattle.bucket_model.proofs.ByteForm.{IsContents, decode-encode-bucket}
-use Rattle.bucket_model.proofs.Every.{Every, every-pingSent, every-pong, every-heard, every-sweep}
+use Rattle.bucket_model.specs.Facts.{Every, IsContents, BucketSound}
+use Rattle.bucket_model.proofs.ByteForm.{decode-encode-bucket}
+use Rattle.bucket_model.proofs.Every.{every-pingSent, every-pong, every-heard, every-sweep}
 use Rattle.bucket_model.proofs.Exact.{sound-has-form, form-is-sound}
-use Rattle.bucket_model.proofs.Sound.{IsAddress, BucketSound, rules-sound, sound-rules}
+use Rattle.bucket_model.proofs.Sound.{IsAddress, rules-sound, sound-rules}
 
 -- ---- each rule keeps them
 

@@ -15,7 +15,7 @@ use Rattle.entry.specs.declared.Entry.{Entry}
 use Rattle.bucket_model.specs.Contents.{Contents}
 use Rattle.bucket_model.specs.Rules.{maxEntries, isOf, ofKey, toTail, held, pinged, ponged, heard, newEntry, promoted, remaining, staysEntry, staysReplacement, freeAfter, onPingSent, onPong, onHeard, onSweep}
 use Rattle.bucket_model.proofs.Keys.{ofKey-ofKey, ofKey-without, ofKey-map, ofKey-update, ofKey-toTail, other-without, other-map, other-update, other-toTail, promoted-or-remaining}
-use Rattle.bucket_model.proofs.Sound.{BucketSound}
+use Rattle.bucket_model.specs.Facts.{BucketSound}
 
 -- the entries and replacements that a bucket holds of one key
 pub record Holds (X : Bytes) (b : Contents) (es rs : List Entry) : Type 0 where

@@ -12,7 +12,8 @@ use Rattle.lists.proofs.Laws.{byTest, never}
 use Rattle.table_model.specs.Layout.{offsetOf, ownOf, clockOf, bucketsOf}
 use Rattle.table_model.specs.Sound.{tableSound}
 use Rattle.table_model.proofs.Table.{length-table}
-use Rattle.table_model.proofs.Sound.{SoundTable, sized-table, form-is-sound, sound-is-table, table-of-sound}
+use Rattle.table_model.specs.Facts.{SoundTable}
+use Rattle.table_model.proofs.Sound.{sized-table, form-is-sound, sound-is-table, table-of-sound}
 use Rattle.call_history.specs.Model.{Env, Reading, Call, datagram, pingSent, sweep, closest, Table, next}
 use Rattle.call_history.specs.Keccak.{withKeccak}
 use Rattle.call_history.specs.Chain.{IsCall}
@@ -20,8 +21,9 @@ use Rattle.call_history.proofs.Sound.{TableSound, IsTable, next-sound, next-val
 use Rattle.call_model.specs.Calls.{answerOn, effectOn, bytesAfter}
 use Rattle.call_model.specs.OverBytes.{encode}
 use Rattle.call_model.specs.AnyBytes.{OnAnyBytes}
+use Rattle.call_model.specs.Claims.{tableIn}
 use Rattle.call_model.proofs.Form.{table-form, form-sound, form-values}
-use Rattle.call_model.proofs.Step.{step-follows}
+use Rattle.call_model.proofs.Step.{step-on-form}
 use Rattle.call_model.proofs.Numbers.{number-listed, one-exactly}
 
 module _ (read : Bytes → ℕ → Reading) where
@@ -41,7 +43,7 @@ module _ (read : Bytes → ℕ → Reading) where
 
   module _ (s : Bytes) (bytes : IsBytes s) (ok : tableSound s ≡ true) (c : Call) (is : IsCall c) where
     abbrev t : Table
-    t = record { clock = clockOf s; buckets = bucketsOf s }
+    t = tableIn s
 
     abbrev form : SoundTable (ownOf s) (clockOf s) (bucketsOf s)
     form = sound-is-table s bytes ok
@@ -61,7 +63,7 @@ module _ (read : Bytes → ℕ → Reading) where
     left : bytesAfter read s c ≡ encode (ownOf s) (next e t c)
     left =
         ap (λ m. bytesAfter read m c) (sym (table-of-sound s bytes ok))
-        ∙ step-follows read (ownOf s) (length (bucketsOf s)) (form .one) (form .most) t c rules-hold values is .1
+        ∙ step-on-form read (ownOf s) t own-bytes form c is .1
 
     after : SoundTable (ownOf s) (next e t c .clock) (next e t c .buckets)
     after =

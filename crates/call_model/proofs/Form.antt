@@ -15,7 +15,8 @@ use Rattle.bucket_model.specs.Contents.{Contents, noContents}
 use Rattle.table_model.specs.Layout.{clockOf, countOf, headerSound}
 use Rattle.table_model.specs.Layout as layout
 use Rattle.table_model.specs.Sound.{bucketSound, bucketsSound}
-use Rattle.table_model.proofs.Sound.{SoundTable, own-back, clock-back, count-back, bucket-at-back, header-of-form, buckets-of-form, all-below}
+use Rattle.table_model.specs.Facts.{SoundTable}
+use Rattle.table_model.proofs.Sound.{own-back, clock-back, count-back, bucket-at-back, header-of-form, buckets-of-form, all-below}
 use Rattle.call_history.specs.Model.{Env, Reading, Table, distanceTo, bucketNumber, slot, bucketOf}
 use Rattle.call_history.specs.Keccak.{withKeccak}
 use Rattle.call_history.proofs.Sound.{TableSound, IsTable, table-sound}

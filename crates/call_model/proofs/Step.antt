@@ -6,20 +6,23 @@ use native.Mathlib.Omega.{arith}
 use lib.Dec.{eqb}
 use lib.ListN.{length}
 use Rattle.octets.specs.Octets.{Bytes, store}
+use Rattle.octets.proofs.Laws.{bytes-part}
 use Rattle.lists.specs.Lists.{first, modify}
 use Rattle.lists.proofs.Laws.{byTest, All-at, length-modify, getD-modify-same, set-modify}
 use Rattle.bucket_model.specs.Contents.{Contents, noContents, encodeBucket}
 use Rattle.bucket_model.specs.Rules.{onPingSent, onSweep}
-use Rattle.table_model.specs.Layout.{encodeTable, offsetOf}
-use Rattle.table_model.proofs.Table.{store-clock-table, store-bucket-table}
-use Rattle.table_model.proofs.Sound.{SoundTable, sized-table, own-back, clock-back, buckets-back, form-is-sound}
+use Rattle.table_model.specs.Layout.{encodeTable, offsetOf, ownOf}
+use Rattle.table_model.specs.Facts.{SoundTable}
+use Rattle.table_model.proofs.Table.{count-read, store-clock-table, store-bucket-table}
+use Rattle.table_model.proofs.Sound.{sized-table, own-back, clock-back, buckets-back, form-is-sound, sound-is-table, table-of-sound}
 use Rattle.call_history.specs.Model.{Env, Reading, Call, datagram, pingSent, sweep, closest, Table, slot, bucketOf, datagramRefusals, pingSentRefusals, onDatagram, answer, effect, next}
 use Rattle.call_history.specs.Keccak.{withKeccak}
 use Rattle.call_history.proofs.Chain.{StepFollows}
 use Rattle.call_history.proofs.Sound.{next-sound, next-values}
 use Rattle.call_model.specs.Calls.{answerOn, atClock, withBucketFor, effectOn, bytesAfter}
 use Rattle.call_model.specs.OverBytes.{encode}
-use Rattle.call_model.proofs.Form.{slot-below, table-form, reads, not-unsound}
+use Rattle.call_model.specs.Claims.{tableIn, StepOnForm, StepOnBytes}
+use Rattle.call_model.proofs.Form.{slot-below, table-form, form-sound, form-values, reads, not-unsound}
 
 module _ (read : Bytes → ℕ → Reading) (own : Bytes) (t : Table) (f : SoundTable own (t .clock) (t .buckets)) where
   abbrev e : Env
@@ -80,3 +83,14 @@ step-follows read own count one most t c ok values is =
     table-form read own count one most (next (withKeccak read own count) t c)
     (next-sound (withKeccak read own count) t ok c) (next-values (withKeccak read own count) t ok values c is) in
     rw (sym (ok .sized)) (answer-follows read own t form c, bytes-follow read own t form c (rw (ok .sized) after))
+
+-- ---- from every sound table
+
+pub step-on-form : StepOnForm
+step-on-form read own t bytes f c is =
+    step-follows read own (length (t .buckets)) (f .one) (f .most) t c (form-sound read own bytes t f) (form-values read own bytes t f) is
+
+pub step-on-bytes : StepOnBytes
+step-on-bytes read s bytes ok c is =
+    rw (table-of-sound s bytes ok, count-read s)
+    at (step-on-form read (ownOf s) (tableIn s) (bytes-part s 0 32 bytes) (sound-is-table s bytes ok) c is)

@@ -2,3 +2,4 @@ pub mod Reading
 pub mod Calls
 pub mod OverBytes
 pub mod AnyBytes
+pub mod Claims

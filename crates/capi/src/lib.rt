@@ -14,6 +14,7 @@ ghost use Rattle.packet_datagram.specs.Datagram.{packetIn};
 ghost use Rattle.written.specs.Written.{written, writtenIn};
 ghost use Rattle.packet_bodies.specs.Writers.{canPing, pingBody, canPong, pongBody, canFindNode, findNodeBody, neighborsBody, enrRequestBody, canEnrResponse, enrResponseBody};
 ghost use Rattle.packet_join.specs.Join as joining;
+ghost use Rattle.packet_reply.specs.Reply.{replyCount, replyPart};
 ghost use Rattle.table.specs.Init.{initAnswer, initTable};
 ghost use Rattle.counters.specs.Counters.{raised, cleared};
 ghost use Rattle.closest_nodes.specs.Listing.{listed, listAfter};
@@ -259,6 +260,32 @@ pub extern "C" fn coghammer_write_neighbors(buf: &mut [u8], nodes: &[u8], expira
         return capi_codes::code(numbers::NOT_WRITABLE, 0);
     }
     capi_codes::written_code(discv4::write_neighbors(buf, capi_nodes::unpacked(nodes), expiration))
+}
+
+// How many Neighbors packets a reply of so many nodes takes: one also of none.
+#[no_mangle]
+pub extern "C" fn coghammer_reply_count(nodes: usize) -> usize
+    ensures { λ r. ⌜ r ≡ replyCount nodes ⌝ }
+{
+    discv4::reply_count(nodes)
+}
+
+// The first node of packet `k` of them, counted from 0.
+#[no_mangle]
+pub extern "C" fn coghammer_reply_start(nodes: usize, k: usize) -> usize
+    ensures { λ r. ⌜ r ≡ replyPart nodes k .start ⌝ }
+{
+    let part = discv4::reply_part(nodes, k);
+    part.start
+}
+
+// How many nodes packet `k` has.
+#[no_mangle]
+pub extern "C" fn coghammer_reply_len(nodes: usize, k: usize) -> usize
+    ensures { λ r. ⌜ r ≡ replyPart nodes k .len ⌝ }
+{
+    let part = discv4::reply_part(nodes, k);
+    part.len
 }
 
 #[no_mangle]

@@ -1,4 +1,4 @@
--- The answer number in a datagram's code is the call's, so that is what `coghammer_datagram` counts. Assumes nothing.
+-- The answer number in a datagram's code is the call's. Assumes nothing.
 use mathlib.Core.Path.{_≡_, refl, _∙_}
 use mathlib.Core.Bool.{Bool}
 use mathlib.Core.List.{List, [], _∷_}
@@ -16,7 +16,8 @@ use Rattle.call_datagram.specs.Received.{received}
 use Rattle.call_answer.specs.declared.Outcome.{Outcome}
 use Rattle.call_answer.specs.declared.Outcome.the-variants.{Refused, Ping, Pong, FindNode, Neighbors, EnrRequest, EnrResponse}
 use Rattle.call_datagram.proofs.Answered.{answer-number}
-use Rattle.capi_codes.specs.Codes.{numberIn, outcomeCode, receivedCode}
+use Rattle.capi_codes.specs.Codes.{numberIn, outcomeCode}
+use Rattle.capi_codes.specs.Claims.{CodeNumber}
 
 -- a code's number is the number that it was made of
 outcome-number : (o : Outcome) → outcomeNumber o < 256 → numberIn (outcomeCode o) ≡ outcomeNumber o
@@ -42,15 +43,14 @@ packet-small e now address udp key ping b = tt
 packet-small e now address udp key (pong hash) b = (omega arith, (omega arith, tt))
 packet-small e now address udp key other b = (omega arith, tt)
 
-module _ (s : Bytes) (now unix : ℕ) (address : Bytes) (udp : ℕ) (key g : Bytes) where
-  answer-small : answerOn reading s (datagram now unix address udp key g) < 256
-  unfolding answerOn datagramRefusals
-  answer-small =
-      let few = packet-small (envOf reading s) now address udp key (reading g unix) (bucketFor reading s key) in
-      first-small (refusalsOn reading s (datagram now unix address udp key g))
-      (omega arith, (omega arith, (omega arith, (omega arith, (omega arith, (omega arith, (omega arith, (omega arith, (omega arith, (omega arith, (omega arith, (omega arith, few))))))))))))
+answer-small : (s : Bytes) (now unix : ℕ) (address : Bytes) (udp : ℕ) (key g : Bytes) → answerOn reading s (datagram now unix address udp key g) < 256
+unfolding answerOn datagramRefusals
+answer-small s now unix address udp key g =
+    let few = packet-small (envOf reading s) now address udp key (reading g unix) (bucketFor reading s key) in
+    first-small (refusalsOn reading s (datagram now unix address udp key g))
+    (omega arith, (omega arith, (omega arith, (omega arith, (omega arith, (omega arith, (omega arith, (omega arith, (omega arith, (omega arith, (omega arith, (omega arith, few))))))))))))
 
-  pub code-number : numberIn (receivedCode (received s now unix address udp key g)) ≡ answerOn reading s (datagram now unix address udp key g)
-  code-number =
-      let e = answer-number s now (record { 0 = unix }) address udp key g in
-      outcome-number (received s now unix address udp key g .outcome) (rw e answer-small) ∙ e
+pub code-number : CodeNumber
+code-number s now unix address udp key g =
+    let e = answer-number s now (record { 0 = unix }) address udp key g in
+    outcome-number (received s now unix address udp key g .outcome) (rw e (answer-small s now unix address udp key g)) ∙ e

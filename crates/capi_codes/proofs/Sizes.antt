@@ -12,7 +12,8 @@ use Rattle.written.specs.Written.{written, writtenIn, writtenSize}
 use Rattle.written.specs.declared.Written.{Written}
 use Rattle.packet_join.specs.Join.{canJoin, datagram}
 use Rattle.packet_join.proofs.Datagrams.{signature-size, body-size, datagram-length}
-use Rattle.packet_laws.specs.Bodies.{EnrFits, WrittenBody}
+use Rattle.packet.specs.Accepted.{SeqFits, Fields}
+use Rattle.packet_laws.specs.Bodies.{WrittenBody}
 use Rattle.packet_laws.proofs.Sizes.{body-range}
 use Rattle.capi_codes.specs.Codes.{writtenCode, seqOf}
 
@@ -27,13 +28,13 @@ module _ (ok : Bool) (bytes buf : Bytes) {w : Written} (e : w ≡ written ok byt
   short-fits h = rw e (omega (arith, size-if ok bytes buf h))
 
   -- a packet's body
-  pub body-fits : (ok ≡ true → WrittenBody bytes) → writtenSize w < 2 ^ 24
+  pub body-fits : {f : Fields} → (ok ≡ true → WrittenBody bytes f) → writtenSize w < 2 ^ 24
   body-fits h = short-fits (λ t. omega (arith, body-range (h t) .1))
 
 pub joined-size : (s b : Bytes) → canJoin s b ≡ true → length (datagram s b) ≤ 1280
 joined-size s b ok = omega (arith, datagram-length s b, signature-size s b ok, body-size s b ok .1)
 
-pub seq-fits : (present : Bool) (n : ℕ) → n < 2 ^ 64 → {e : EnrSeq} → e ≡ seqOf present n → EnrFits e
+pub seq-fits : (present : Bool) (n : ℕ) → n < 2 ^ 64 → {e : EnrSeq} → e ≡ seqOf present n → SeqFits e
 seq-fits true n h e = rw e h
 seq-fits false n h e = rw e tt
 

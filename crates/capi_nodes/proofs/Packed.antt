@@ -23,7 +23,7 @@ use Rattle.packet_bodies.specs.Parts.{body, nodesIn, haveAddresses, writableNod
 use Rattle.written.specs.Written.{written, writtenIn}
 use Rattle.packet_bodies.specs.declared.NodeList.{NodeList}
 use Rattle.packet_bodies.specs.Writers.{neighborsBody}
-use Rattle.packet_laws.specs.Bodies.{NodeFits, NodesFit, WrittenBody, neighbors}
+use Rattle.packet_laws.specs.Bodies.{NodeFits, NodesFit, neighborsWritten, WrittenBody, neighbors}
 use Rattle.capi_nodes.specs.Packed.{packedNode, packedAt, packedList, isPacked, canPacked}
 
 -- the calls of `packed_at`, put together
@@ -90,7 +90,7 @@ module _ (s : Bytes) (ok : isPacked s ≡ true) (l : NodeList) (n : l .len ≡ l
       rw e
       (fits-all (length s / 85) (packedAt s) (λ i h. node-fits (part s (i * 85) 85) (length-part s (i * 85) 85 (omega arith)) (bytes-part s (i * 85) 85 bs)))
 
-  pub body-is-written : IsBytes s → (x : ℕ) → x < 2 ^ 64 → writableNodes l ≡ true → WrittenBody (neighborsBody l x)
+  pub body-is-written : IsBytes s → (x : ℕ) → x < 2 ^ 64 → writableNodes l ≡ true → WrittenBody (neighborsBody l x) (neighborsWritten l x)
   body-is-written bs x hx t = neighbors l x t (nodes-fit bs) hx
 
   pub same-answer : (x : ℕ) (buf : Bytes) → written (writableNodes l) (neighborsBody l x) buf ≡ written (canPacked s) (neighborsBody (packedList s) x) buf

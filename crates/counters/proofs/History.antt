@@ -60,7 +60,7 @@ count-read : (c : Counters) (n : ℕ) → n < 22 → countOf c n ≡ getD (c .co
 unfolding countOf
 count-read c n h = simp (lt-ltb n 22 h)
 
-pub counts-are-history : (numbers : List ℕ) → CountsAreHistory numbers
+pub counts-are-history : CountsAreHistory
 counts-are-history numbers n h =
     let sum : 0 + timesOf n numbers ≡ timesOf n numbers = omega arith in
     count-read (counted cleared numbers) n h ∙ from n h numbers cleared 0 (length-replicate {A = ℕ} 22 0) (zeros 22 n) ∙ ap capped sum

@@ -21,6 +21,6 @@ timesOf n (m ∷ ms) = cond (eqb n m) (suc (timesOf n ms)) (timesOf n ms)
 abbrev pub capped : ℕ → ℕ
 capped n = cond (ltb n 4294967295) n 4294967295
 
--- every count after a list of calls since clearing
-abbrev pub CountsAreHistory : List ℕ → Type 0
-CountsAreHistory numbers = (n : ℕ) → n < 22 → countOf (counted cleared numbers) n ≡ capped (timesOf n numbers)
+-- every count after any list of calls since clearing
+abbrev pub CountsAreHistory : Type 0
+CountsAreHistory = (numbers : List ℕ) (n : ℕ) → n < 22 → countOf (counted cleared numbers) n ≡ capped (timesOf n numbers)

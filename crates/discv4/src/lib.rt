@@ -22,10 +22,14 @@ pub use counters::cleared;
 pub use counters::count_of;
 
 // ---- packets written
-// The six bodies, and the datagram of a signature and a body; the host signs the Keccak-256 of a body.
+// The six bodies, and the datagram of a signature and a body; the host signs the Keccak-256 of a body. `reply_count` and `reply_part` say
+// how the nodes of a reply go into Neighbors packets.
 pub use keccak::keccak256;
 pub use packet_bodies::NodeList;
 pub use packet_join::join;
+pub use packet_reply::Part as ReplyPart;
+pub use packet_reply::reply_count;
+pub use packet_reply::reply_part;
 pub use packet_write_enr::write_enr_request;
 pub use packet_write_enr::write_enr_response;
 pub use packet_write_nodes::write_find_node;

@@ -17,6 +17,7 @@ use Rattle.entry.specs.declared.EndpointProof.the-variants.{Unproved, At
 use Rattle.entry.specs.declared.PingState.{PingState}
 use Rattle.entry.specs.declared.PingState.the-variants.{Quiet, Out}
 use Rattle.entry.specs.Layout.{encodeEntry, decodeEntry, encodeEndpoint, decodeEndpoint, encodeStamp, decodeStamp, proofStamp, proofOf, pingStamp, pingOf}
+pub use Rattle.entry.specs.Values.{ProofFits, PingFits, IsEntry}
 
 -- ---- lengths
 
@@ -128,25 +129,6 @@ pub loaded-entry : (s : List ℕ) (at : ℕ) {key hash : List ℕ} {endpoint : E
 loaded-entry s at e₁ e₂ e₃ e₄ e₅ e₆ e₇ e₈ = cc (decode-entry s at)
 
 -- ---- an entry is read back from its bytes
-
-abbrev pub ProofFits : EndpointProof → Type 0
-ProofFits Unproved = Unit {0}
-ProofFits (At t) = t .0 < 2 ^ 64
-
-abbrev pub PingFits : PingState → Type 0
-PingFits Quiet = Unit {0}
-PingFits (Out t) = t .0 < 2 ^ 64
-
--- what a value of the type Entry is, as a fact of the record
-pub record IsEntry (p : Entry) : Type 0 where
-  pub key : length (p .key) ≡ 64
-  pub address : length (p .endpoint .address) ≡ 16
-  pub hash : length (p .hash) ≡ 32
-  pub udp : p .endpoint .udp < 2 ^ 16
-  pub tcp : p .endpoint .tcp < 2 ^ 16
-  pub seen : p .seen .0 < 2 ^ 64
-  pub proof : ProofFits (p .proof)
-  pub ping : PingFits (p .ping)
 
 pub decode-encode-endpoint : (e : Endpoint) → length (e .address) ≡ 16 → e .udp < 2 ^ 16 → e .tcp < 2 ^ 16 → decodeEndpoint (encodeEndpoint e) ≡ e
 unfolding decodeEndpoint encodeEndpoint

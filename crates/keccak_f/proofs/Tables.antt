@@ -1,22 +1,14 @@
 -- The published rule of the round constants gives the published figures, by one equation that antt computes. Assumes nothing.
 use mathlib.Core.Path.{_≡_, refl, ap, _∙_, sym}
-use mathlib.Core.List.{List, [], _∷_}
+use mathlib.Core.List.{List}
 use Prim.Native.Nat.{ℕ, zero, suc, _+_, _<_}
 use native.Mathlib.Nat.{zero-add, add-zero, add-suc, suc-add, le-of-suc-le-suc, not-suc-le-zero}
 use lib.ListN.{getD}
-use Rattle.keccak_steps.specs.Lanes.{each, listOf}
+use Rattle.keccak_steps.specs.Lanes.{each}
 use Rattle.keccak_steps.specs.Permutation.{power, rc, constantBits, roundConstant}
+use Rattle.keccak_f.specs.Constants.{publishedConstants, RoundConstants}
 
-abbrev pub publishedConstants : List ℕ
-publishedConstants =
-    0x0000000000000001 ∷ 0x0000000000008082 ∷ 0x800000000000808a ∷ 0x8000000080008000
-    ∷ 0x000000000000808b ∷ 0x0000000080000001 ∷ 0x8000000080008081 ∷ 0x8000000000008009
-    ∷ 0x000000000000008a ∷ 0x0000000000000088 ∷ 0x0000000080008009 ∷ 0x000000008000000a
-    ∷ 0x000000008000808b ∷ 0x800000000000008b ∷ 0x8000000000008089 ∷ 0x8000000000008003
-    ∷ 0x8000000000008002 ∷ 0x8000000000000080 ∷ 0x000000000000800a ∷ 0x800000008000000a
-    ∷ 0x8000000080008081 ∷ 0x8000000000008080 ∷ 0x0000000080000001 ∷ 0x8000000080008008 ∷ []
-
-pub round-constants : listOf 24 roundConstant ≡ publishedConstants
+pub round-constants : RoundConstants
 unfolding roundConstant constantBits rc power
 round-constants = refl
 

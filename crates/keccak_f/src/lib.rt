@@ -1,6 +1,7 @@
 // The permutation Keccak-f[1600].
 // A state is 25 lanes of 64 bits; lane (x, y) stands at x + 5 * y.
 ghost use mathlib.Core.Path.{_≡_};
+ghost use Rattle.keccak_f.specs.Constants.{publishedConstants};
 ghost use Rattle.keccak_steps.specs.Permutation.{round, keccakF};
 use keccak_rho::rho;
 use keccak_steps::chi;
@@ -36,6 +37,13 @@ const ROUND_CONSTANTS: [u64; 24] = [
     0x8000000080008008,
 ];
 
+// The table is the published one.
+fn round_constants() -> [u64; 24]
+    ensures { λ r. ⌜ r ≡ publishedConstants ⌝ }
+{
+    ROUND_CONSTANTS
+}
+
 fn round(a: [u64; 25], c: u64) -> [u64; 25]
     ensures { λ r. ⌜ r ≡ round c a ⌝ }
 {
@@ -47,7 +55,7 @@ pub fn permute(a: [u64; 25]) -> [u64; 25]
     ensures { λ r. ⌜ r ≡ keccakF a ⌝ }
 {
     // copied once, so that a round reads its constant from memory that is already filled
-    let constants = ROUND_CONSTANTS;
+    let constants = round_constants();
     let mut s = a;
     let mut i: usize = 0;
     while i < 24 {

@@ -2,6 +2,7 @@
 // A state is 25 lanes of 64 bits; lane (x, y) stands at x + 5 * y.
 ghost use mathlib.Core.Path.{_≡_};
 ghost use Prim.Native.Nat.{_<_};
+ghost use Rattle.keccak_rho.specs.Offsets.{publishedOffsets};
 ghost use Rattle.keccak_steps.specs.Lanes.{rot};
 ghost use Rattle.keccak_steps.specs.Permutation.{rho};
 
@@ -33,6 +34,13 @@ const OFFSETS: [u32; 25] = [
     56,
     14,
 ];
+
+// The table is the published one.
+pub fn rotation_offsets() -> [u32; 25]
+    ensures { λ r. ⌜ r ≡ publishedOffsets ⌝ }
+{
+    OFFSETS
+}
 
 // The lane x rotated by n bits.
 fn rotl(x: u64, n: u32) -> u64

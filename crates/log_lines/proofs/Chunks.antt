@@ -1,7 +1,7 @@
 -- The lines of a log do not depend on how it is cut into chunks. Assumes nothing.
-use Prim.Native.Nat.{ℕ, zero, suc, _+_, _-_, _≤_, _<_}
+use Prim.Native.Nat.{ℕ, zero, suc, _+_, _-_, _<_}
 use mathlib.Core.Path.{_≡_, sym, ap, _∙_}
-use mathlib.Core.List.{List, [], _∷_, _++_, map}
+use mathlib.Core.List.{List, [], _∷_, _++_}
 use native.Mathlib.Omega.{arith}
 use borrow.Author.Tests.{ltb-true}
 use lib.Dec.{ltb}
@@ -10,9 +10,10 @@ use Rattle.octets.specs.Octets.{Bytes}
 use Rattle.lists.proofs.Laws.{byTest}
 use Rattle.log_lines.specs.declared.Begun.{Begun}
 use Rattle.log_lines.specs.declared.Step.the-variants.{Line, TooLong, More}
-use Rattle.log_lines.specs.Lines.{linesOf, limit, Held, whole, tooLong, held, toCome}
+use Rattle.log_lines.specs.Lines.{Held, whole, tooLong, held, toCome}
 use Rattle.log_lines.specs.Steps.{piece, grown, fresh, ended, stepOf, bufferAfter}
 use Rattle.log_lines.specs.Feeding.{heldIn, Room, told, Feeds, line, long, on, end, join}
+use Rattle.log_lines.specs.Claims.{FeedsLines, FeedsEnds}
 use Rattle.log_lines.proofs.Laws.{all-to-come, step-told, last-told, length-added, grown-size}
 
 -- the bytes of the chunk that a step takes, but for 0A
@@ -66,9 +67,7 @@ feeds-to-come {buffer} {chunk} {b} {at} {more} room (long next e f) = step-told 
 feeds-to-come {buffer} {chunk} {b} {at} room (on {c = c} {more = more} b' e f) = step-told buffer b chunk at (c ++ join more) room ∙ rw e (feeds-to-come (room-more buffer b chunk at b' room e) f)
 feeds-to-come {buffer} {chunk} {b} {at} room (end b' e) = step-told buffer b chunk at [] room ∙ rw e (last-told (bufferAfter buffer b chunk at) b' (room-more buffer b chunk at b' room e))
 
--- Whoever steps through the chunks of a log is told its lines, in order, however it is cut.
-pub feeds-lines : (buffer chunk : Bytes) (more : List Bytes) (lines : List Held) → limit ≤ length buffer → Feeds buffer fresh chunk 0 more lines
-    → lines ≡ map held (linesOf (chunk ++ join more))
+pub feeds-lines : FeedsLines
 unfolding held heldIn
 feeds-lines buffer chunk more lines h f = sym (feeds-to-come (record { buffer-size = h; line-size = omega arith }) f) ∙ all-to-come [] (chunk ++ join more)
 
@@ -98,5 +97,5 @@ ends-in (suc k) buffer b chunk at (c ∷ more) h = elim (found b chunk at) [
   | used e ↦ let rest = ends-in k (bufferAfter buffer b chunk at) (grown b (size chunk at)) c 0 more (omega arith) in (rest .0, on (grown b (size chunk at)) e (rest .1))
 ]
 
-pub feeds-ends : (buffer : Bytes) (chunk : Bytes) (more : List Bytes) → (lines : List Held) × Feeds buffer fresh chunk 0 more lines
+pub feeds-ends : FeedsEnds
 feeds-ends buffer chunk more = ends-in (suc (length chunk + weight more)) buffer fresh chunk 0 more (omega arith)

@@ -24,7 +24,8 @@ use Rattle.log_line.proofs.Numbers.{Numbers, line-numbers}
 use Rattle.table_model.specs.Layout.{countOf, offsetOf}
 use Rattle.table_model.specs.Sound.{tableSound}
 use Rattle.table_model.proofs.Table.{length-table}
-use Rattle.table_model.proofs.Sound.{SoundTable, sized-table, count-back, form-is-sound}
+use Rattle.table_model.specs.Facts.{SoundTable}
+use Rattle.table_model.proofs.Sound.{sized-table, count-back, form-is-sound}
 use Rattle.table.specs.Init.{freshTable}
 use Rattle.call_history.specs.Model.{Env, Call, datagram, pingSent, sweep, Table, fresh, next}
 use Rattle.call_history.specs.Keccak.{withKeccak}

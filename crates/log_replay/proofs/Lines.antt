@@ -6,7 +6,6 @@ use mathlib.Core.List.{[]}
 use native.Mathlib.Omega.{arith}
 use Rattle.octets.specs.Octets.{Bytes, part, numberFrom}
 use Rattle.lists.proofs.Laws.{never}
-use Rattle.log_lines.specs.Lines.{whole}
 use Rattle.log_line.specs.declared.Line.{Line}
 use Rattle.log_line.specs.declared.Line.the-variants.{Own, Rx, Sent, Sweep, Unreadable}
 use Rattle.log_line.specs.Fields.{said}
@@ -22,6 +21,7 @@ use Rattle.call_datagram.specs.Received.{received}
 use Rattle.log_answer.specs.AnswerRows.{numberRow}
 use Rattle.log_answer.specs.AnswerLine.{receivedRow}
 use Rattle.log_replay.specs.Replay.{withTable, lineAnswer, lineAfter, answer, after}
+use Rattle.log_replay.specs.Claims.{isCallLine, withoutTable, NoTable}
 
 -- no bytes are no table
 no-header : headerSound [] ≡ false
@@ -48,32 +48,21 @@ no-table-received : (now unix : ℕ) (address : Bytes) (udp : ℕ) (key g : Byte
 unfolding received receivedRow
 no-table-received now unix address udp key g = rw (no-table-number (datagram now unix address udp key g)) refl
 
--- a line that calls
-abbrev pub isCallLine : Line → Bool
-isCallLine (Own buckets key) = false
-isCallLine (Rx now unix address port signer bytes) = true
-isCallLine (Sent now key address udp tcp hash) = true
-isCallLine (Sweep now) = true
-isCallLine Unreadable = false
-
 by-kind : (owned : Bool) (line : Bytes) (l : Line) → isCallLine l ≡ true
-    → (lineAnswer (record { owned = owned; table = [] }) line l ≡ numberRow 1) × (lineAfter (record { owned = owned; table = [] }) line l ≡ record { owned = owned; table = [] })
+    → (lineAnswer (withoutTable owned) line l ≡ numberRow 1) × (lineAfter (withoutTable owned) line l ≡ withoutTable owned)
 unfolding lineAnswer lineAfter
 by-kind owned line (Own buckets key) h = never (sym h)
 by-kind owned line (Rx now unix address port signer bytes) h = (
   no-table-received now unix (said line address) port (said line signer) (said line bytes),
-  ap (withTable (record { owned = owned; table = [] })) (no-table-bytes (datagram now unix (said line address) port (said line signer) (said line bytes))),
+  ap (withTable (withoutTable owned)) (no-table-bytes (datagram now unix (said line address) port (said line signer) (said line bytes))),
 )
 by-kind owned line (Sent now key address udp tcp hash) h =
     let c : Call = pingSent now (said line key) (said line address) udp tcp (said line hash) in
-    (ap numberRow (no-table-number c), ap (withTable (record { owned = owned; table = [] })) (no-table-bytes c))
+    (ap numberRow (no-table-number c), ap (withTable (withoutTable owned)) (no-table-bytes c))
 by-kind owned line (Sweep now) h =
-    (ap numberRow (no-table-number (sweep now)), ap (withTable (record { owned = owned; table = [] })) (no-table-bytes (sweep now)))
+    (ap numberRow (no-table-number (sweep now)), ap (withTable (withoutTable owned)) (no-table-bytes (sweep now)))
 by-kind owned line Unreadable h = never (sym h)
 
--- "a call line before an accepted `own` gets 1"
-pub no-table : (owned : Bool) (line : Bytes) → isCallLine (lineOf line) ≡ true
-    → (answer (record { owned = owned; table = [] }) (whole line) ≡ numberRow 1)
-    × (after (record { owned = owned; table = [] }) (whole line) ≡ record { owned = owned; table = [] })
+pub no-table : NoTable
 unfolding answer after
 no-table owned line h = by-kind owned line (lineOf line) h

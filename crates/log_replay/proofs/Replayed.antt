@@ -1,8 +1,6 @@
--- Whoever steps through the chunks of a log, answers its lines one after the other and then prints, writes the replay of the log, however it is
--- cut into chunks. Assumes nothing.
+-- What is written for the lines of a log, however it is cut into chunks, is its replay. Assumes nothing.
 use Prim.Native.Nat.{ℕ, _≤_}
 use mathlib.Core.Path.{_≡_, refl, ap, ap₂, _∙_}
-use mathlib.Core.Bool.{false}
 use mathlib.Core.List.{List, _∷_, _++_, append-assoc}
 use native.Mathlib.Omega.{arith}
 use lib.ListN.{length, take}
@@ -17,13 +15,10 @@ use Rattle.log_own.specs.OwnLine.{startState}
 use Rattle.log_own.specs.Steps.{sizeOf, stateOf}
 use Rattle.log_own.proofs.Memory.{front-is}
 use Rattle.log_replay.specs.Replay.{answer, after, ending, outputFrom, replayed}
-use Rattle.log_replay.specs.Steps.{AnsweredLine, Runs, done, next}
+use Rattle.log_replay.specs.Steps.{startReplay, AnsweredLine, Runs, done, next}
+use Rattle.log_replay.specs.Claims.{ReplayOfLog}
 use Rattle.log_replay.proofs.Answered.{unchanged}
 use Rattle.log_replay.proofs.Kept.{Good, good-after}
-
--- before the first line
-abbrev pub startReplay : Replay
-startReplay = record { owned = false; count = 0 }
 
 pub start-state : (memory : Bytes) → stateOf startReplay memory ≡ startState
 unfolding sizeOf
@@ -60,8 +55,6 @@ pub feeds-output : (buffer chunk : Bytes) (more : List Bytes) (lines : List Held
 unfolding replayed
 feeds-output buffer chunk more lines h f = ap (outputFrom startState) (feeds-lines buffer chunk more lines h f)
 
-pub replay-of-log : (buffer memory chunk : Bytes) (more : List Bytes) {lines : List Held} {output last : Bytes} {end : Replay} → limit ≤ length buffer
-    → Feeds buffer fresh chunk 0 more lines → Runs startReplay memory lines output end last
-    → output ++ ending (stateOf end last) ≡ replayed (join (chunk ∷ more))
-replay-of-log buffer memory chunk more {lines} h f r =
+pub replay-of-log : ReplayOfLog
+replay-of-log buffer memory chunk more lines output last end h f r =
     runs-output r ∙ ap (λ st. outputFrom st lines) (start-state memory) ∙ feeds-output buffer chunk more lines h f

@@ -1,5 +1,6 @@
 -- The lines of a log are answered one after the other.
 use Prim.Native.Nat.{_≤_}
+use mathlib.Core.Bool.{false}
 use mathlib.Core.List.{List, [], _∷_, _++_}
 use lib.ListN.{length, take}
 use Rattle.octets.specs.Octets.{Bytes}
@@ -9,6 +10,10 @@ use Rattle.log_own.specs.declared.Replay.{Replay}
 use Rattle.log_own.specs.declared.Stepped.{Stepped}
 use Rattle.log_own.specs.Steps.{stateOf, Answered}
 use Rattle.log_replay.specs.Replay.{answer, after}
+
+-- before the first line
+abbrev pub startReplay : Replay
+startReplay = record { owned = false; count = 0 }
 
 -- a line is answered by the rules
 abbrev pub AnsweredLine : Replay → Held → Bytes → Bytes → Stepped → Bytes → Bytes → Type 0

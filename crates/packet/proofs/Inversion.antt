@@ -97,7 +97,7 @@ module _ (g : Bytes) (base : ℕ) (sl : Slice g) (fits : base ≤ length g) wher
       udp-at : senderOf at n s .udp ≡ u
       udp-at = udp-is g at s is (payload-lies g base sl fits) items small n a u t e good part-small
 
-      tcp-at : senderOf at n s .tcp ≡ t
+      pub tcp-at : senderOf at n s .tcp ≡ t
       tcp-at = tcp-is g at s is (payload-lies g base sl fits) items small n a u t e good part-small
 
     -- the enr-seq that is item n, after the first n

@@ -42,7 +42,7 @@ unfolding padded
 padded-all n s h =
     ap (store (replicate n 0) 0) (fitting-is n s (omega arith)) ∙ store-all (replicate n 0) s (h ∙ sym (length-replicate n 0))
 
-padded-front : (n : ℕ) (s : Bytes) → length s ≤ n → take (length s) (padded n s) ≡ s
+pub padded-front : (n : ℕ) (s : Bytes) → length s ≤ n → take (length s) (padded n s) ≡ s
 unfolding padded part
 padded-front n s h =
     ap (λ (x : Bytes). take (length s) (store (replicate n 0) 0 x)) (fitting-is n s h)

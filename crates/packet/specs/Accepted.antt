@@ -13,6 +13,10 @@ use Rattle.node.specs.declared.Node.{Node}
 use Rattle.node.specs.Nodes.{addressOf}
 use Rattle.packet_span.specs.Parts.{bytesOf}
 use Rattle.packet_fields.specs.Spans.{padded, nodesOf}
+use Rattle.packet.specs.declared.PacketType.{PacketType}
+use Rattle.packet.specs.declared.PacketType.the-variants as type
+use Rattle.packet.specs.declared.Packet.{Packet}
+use Rattle.packet.specs.declared.Packet.the-variants as packet
 use Rattle.packet.specs.declared.Ping.{Ping}
 use Rattle.packet.specs.declared.Pong.{Pong}
 use Rattle.packet.specs.declared.FindNode.{FindNode}
@@ -165,3 +169,39 @@ pub record EnrResponseEncoded (d : Bytes) (f : EnrResponseFields) : Type 0 where
   pub enr-is : f .enr ≡ encode (list content)
   pub hash-sized : length (f .request-hash) ≡ 32
   pub enr-sized : length (f .enr) ≤ 300
+
+-- ---- the six together
+
+pub data Fields : Type 0 where
+  ping : PingFields → Fields
+  pong : PongFields → Fields
+  findNode : FindNodeFields → Fields
+  neighbors : NeighborsFields → Fields
+  enrRequest : EnrRequestFields → Fields
+  enrResponse : EnrResponseFields → Fields
+
+abbrev pub typeOfFields : Fields → PacketType
+typeOfFields (ping f) = type.Ping
+typeOfFields (pong f) = type.Pong
+typeOfFields (findNode f) = type.FindNode
+typeOfFields (neighbors f) = type.Neighbors
+typeOfFields (enrRequest f) = type.EnrRequest
+typeOfFields (enrResponse f) = type.EnrResponse
+
+-- the fields of a packet in the datagram g
+abbrev pub fieldsOf : Bytes → Packet → Fields
+fieldsOf g (packet.Ping p) = ping (pingFields g p)
+fieldsOf g (packet.Pong p) = pong (pongFields g p)
+fieldsOf g (packet.FindNode p) = findNode (findNodeFields g p)
+fieldsOf g (packet.Neighbors p) = neighbors (neighborsFields g p)
+fieldsOf g (packet.EnrRequest p) = enrRequest (enrRequestFields p)
+fieldsOf g (packet.EnrResponse p) = enrResponse (enrResponseFields g p)
+
+-- data that begins with the encoding of these fields
+abbrev pub Encoded : Bytes → Fields → Type 0
+Encoded d (ping f) = PingEncoded d f
+Encoded d (pong f) = PongEncoded d f
+Encoded d (findNode f) = FindNodeEncoded d f
+Encoded d (neighbors f) = NeighborsEncoded d f
+Encoded d (enrRequest f) = EnrRequestEncoded d f
+Encoded d (enrResponse f) = EnrResponseEncoded d f

@@ -37,6 +37,15 @@ typeOf b =
     (cond (eqb b 4) (Known type.Neighbors)
     (cond (eqb b 5) (Known type.EnrRequest) (cond (eqb b 6) (Known type.EnrResponse) Unknown)))))
 
+-- the byte of each type
+abbrev pub byteOf : PacketType → ℕ
+byteOf type.Ping = 1
+byteOf type.Pong = 2
+byteOf type.FindNode = 3
+byteOf type.Neighbors = 4
+byteOf type.EnrRequest = 5
+byteOf type.EnrResponse = 6
+
 -- an integer of 64 bits
 abbrev pub anyUint : Kind
 anyUint = Uint (2 ^ 64 - 1)

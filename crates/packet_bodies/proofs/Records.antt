@@ -1,21 +1,22 @@
 -- A record that can be written is the encoding of the list that it holds.
-use Prim.Native.Nat.{_+_, _-_, _≤_, _<_}
+use Prim.Native.Nat.{_+_, _-_, _≤_, _<_, _^_}
 use mathlib.Core.Path.{_≡_, refl, sym, ap, _∙_}
 use mathlib.Core.Bool.{true, false, false≢true}
 use mathlib.Core.List.{[], _++_, append-nil}
 use native.Mathlib.Omega.{arith}
 use lib.Dec.{leb}
-use borrow.Author.Tests.{le-leb, lt-leb, leb-true, eqb-true}
+use borrow.Author.Tests.{le-leb, lt-leb, leb-true, eqb-true, eq-eqb}
 use lib.ListN.{length, drop, drop-of-length-le}
 use Rattle.octets.specs.Octets.{Bytes, Slice, part}
 use Rattle.octets.proofs.Laws.{part-rest}
-use Rattle.rlp.specs.Encoding.{encode, list}
+use Rattle.rlp.specs.Encoding.{encode, list, prefix}
 use Rattle.rlp.specs.Reading.{head}
 use Rattle.rlp.specs.declared.Header.{Header}
 use Rattle.rlp.specs.declared.Header.the-variants.{Item, Broken}
-use Rattle.rlp.proofs.Encoding.{read-sound}
+use Rattle.rlp.proofs.Encoding.{read-item, encode-length, read-sound}
 use Rattle.lists.proofs.Laws.{and-left, and-right}
 use Rattle.packet_bodies.specs.Writers.{isListOf, isRecord, skipOf, content}
+use Rattle.packet_bodies.specs.Records.{RecordExactly}
 
 -- by the header
 pub record-by : (r : Bytes) {h : Header} → length r ≤ 300 → head r ≡ h → isListOf h (length r) ≡ isRecord r
@@ -41,3 +42,16 @@ list-is r (Item true skip size) b e ok =
 
 pub content-is : (r : Bytes) → Slice r → isRecord r ≡ true → encode (list (content r)) ≡ r
 content-is r b ok = list-is r (head r) b refl (and-right (leb (length r) 300) (isListOf (head r) (length r)) ok)
+
+encoding-record : (r p : Bytes) → r ≡ encode (list p) → length r ≤ 300 → isRecord r ≡ true
+encoding-record r p e few =
+    let n = encode-length (list p) in
+    let small : length p < 2 ^ 64 = omega (arith, ap length e) in
+    let h = ap head (e ∙ sym (append-nil (encode (list p)))) ∙ read-item (list p) [] small in
+    sym (record-by r few h) ∙ eq-eqb (length (prefix (list p)) + length p) (length r) (sym (ap length e ∙ n))
+
+pub record-exactly : RecordExactly
+record-exactly r sl = (
+  (λ ok. ((content r, sym (content-is r sl ok)), record-bound r ok)),
+  (λ h. encoding-record r (h .0 .0) (h .0 .1) (h .1)),
+)

@@ -1,3 +1,4 @@
 pub mod Short
 pub mod Theorems
 pub mod Refusals
+pub mod Acceptance

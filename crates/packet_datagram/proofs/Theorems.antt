@@ -1,13 +1,7 @@
 -- Accepted datagrams.
-use Prim.Native.Nat.{_≤_}
-use mathlib.Core.Path.{_≡_, refl, sym, ap, _∙_}
-use mathlib.Core.Bool.{true}
+use mathlib.Core.Path.{refl, sym, ap, _∙_}
 use native.Mathlib.Omega.{arith}
-use lib.ListN.{length, drop, getD, length-drop}
-use Rattle.octets.specs.Octets.{Bytes, Slice}
-use Rattle.packet_span.specs.Parts.{bytesOf}
-use Rattle.packet_fields.specs.Spans.{nodesOf}
-use Rattle.packet_envelope.specs.Envelope.{isSized}
+use lib.ListN.{drop, getD, length-drop}
 use Rattle.packet_envelope.proofs.Laws.{sized}
 use Rattle.packet.specs.Packets.{typeOf, readTyped}
 use Rattle.packet.specs.Accepted.{neighborsFields}
@@ -15,12 +9,10 @@ use Rattle.packet.proofs.Accepted.{read-type}
 use Rattle.packet.proofs.NodeLists.{neighbors-accepted, at-most-15}
 use Rattle.packet.specs.declared.TypeByte.{TypeByte}
 use Rattle.packet.specs.declared.Packet.the-variants.{Neighbors}
-use Rattle.packet.specs.declared.Parsed.the-variants.{Packet}
-use Rattle.packet.specs.declared.Neighbors as neighbors
 use Rattle.packet_datagram.specs.Datagram.{packetIn}
+use Rattle.packet_datagram.specs.Neighbors.{NeighborsAtMost15}
 
--- an accepted Neighbors lists at most 15 nodes
-pub neighbors-at-most-15 : (g : Bytes) (p : neighbors.Neighbors) → Slice g → isSized g ≡ true → packetIn g ≡ Packet (Neighbors p) → length (nodesOf (bytesOf g (p .nodes))) ≤ 15
+pub neighbors-at-most-15 : NeighborsAtMost15
 unfolding packetIn
 neighbors-at-most-15 g p sl h e =
     let r = sized g h in

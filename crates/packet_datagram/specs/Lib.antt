@@ -1,1 +1,3 @@
 pub mod Datagram
+pub mod Neighbors
+pub mod Acceptance

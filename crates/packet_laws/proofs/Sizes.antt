@@ -1,14 +1,14 @@
 -- Sizes of written packets.
 use Prim.Native.Nat.{ℕ, zero, suc, _+_, _*_, _≤_, _<_, _^_}
 use mathlib.Core.Path.{_≡_, ap, _∙_}
-use mathlib.Core.Bool.{true}
+use mathlib.Core.Bool.{Bool, true, _&&_}
 use mathlib.Core.List.{List, [], _∷_, map}
 use native.Mathlib.Omega.{arith}
 use native.Mathlib.Decide.{decLt}
 use lib.Dec.{eqb}
 use borrow.Author.Tests.{eqb-true, eq-eqb, le-leb}
-use lib.ListN.{length, take, length-append, length-take}
-use Rattle.node.specs.Nodes.{isAddress, isAddressSize}
+use lib.ListN.{length, length-append}
+use Rattle.node.specs.Nodes.{addressOf, isAddress, isAddressSize}
 use Rattle.octets.specs.Octets.{Bytes, Slice}
 use Rattle.node.specs.declared.Node.{Node}
 use Rattle.rlp.specs.Encoding.{Item, list, header, encode, encodes}
@@ -17,17 +17,19 @@ use Rattle.rlp.proofs.Writing.{header-short, header-long, encode-list, uint-siz
 use Rattle.packet_model.specs.Items.{uint, endpoint, node, pingItems, pongItems, findNodeItems, neighborsItems, enrRequestItems, enrResponseItems, enrSeqItems, nodeItem}
 use Rattle.packet_model.specs.declared.EnrSeq.{EnrSeq}
 use Rattle.packet_model.specs.declared.EnrSeq.the-variants.{Absent, Present}
-use Rattle.packet_bodies.specs.Parts.{body, nodeItems, nodesIn, haveAddresses, writableNodes}
-use Rattle.packet_bodies.specs.declared.NodeList.{NodeList}
+use Rattle.packet.specs.Accepted.{SeqFits, NodeGood, NodesGood, Fields, ping, pong, findNode, neighbors, enrRequest, enrResponse}
+use Rattle.packet_bodies.specs.Parts.{body}
 use Rattle.lists.proofs.Laws.{and-left, and-right}
 use Rattle.packet_bodies.proofs.Sizes.{total-size, uint-bytes, string-short, string-long, uint-width, address-size, fields-size, fields-bound, endpoint-size, node-size}
-use Rattle.packet_bodies.proofs.Nodes.{few, addresses, address-is}
-use Rattle.packet_bodies.specs.Writers.{isRecord, content, canPing, canPong}
+use Rattle.packet_bodies.specs.Writers.{isRecord, content, canPing, canPong, neighborsBody}
 use Rattle.packet_bodies.proofs.Records.{record-bound, content-is}
 use Rattle.packet_join.specs.Join.{datagram}
 use Rattle.packet_join.proofs.Datagrams.{datagram-length}
-use Rattle.packet_laws.specs.Sizes.{AllOf, Joins, ReplySizes}
-use Rattle.packet_laws.specs.Bodies.{EnrFits, NodeFits, NodesFit, WrittenBody, ping, pong, findNode, neighbors, enrRequest, enrResponse}
+use Rattle.packet_laws.specs.Sizes.{WrittenJoins, AllOf, ReplySizes}
+use Rattle.packet_laws.specs.Bodies.{padNode, WrittenBody}
+use Rattle.packet_laws.specs.Bodies as written
+use Rattle.packet_laws.specs.RoundTrip.{bodyOf, Writable}
+use Rattle.packet_laws.proofs.Written.{good, same-item, wrote}
 
 -- the header of a payload below 256 ^ k takes at most k bytes more
 pub header-width : (base k n : ℕ) → n < 256 ^ k → length (header base n) ≤ 1 + k
@@ -49,7 +51,7 @@ body-bound : (k kind : ℕ) (items : List Item) → length (encodes items) < 256
 body-bound k kind items h = omega (arith, body-length kind items, header-width 0xc0 k (length (encodes items)) h)
 
 -- the parts at their largest
-last-bound : (x : ℕ) (e : EnrSeq) → x < 2 ^ 64 → EnrFits e → length (encodes (uint x ∷ enrSeqItems e)) ≤ 18
+last-bound : (x : ℕ) (e : EnrSeq) → x < 2 ^ 64 → SeqFits e → length (encodes (uint x ∷ enrSeqItems e)) ≤ 18
 last-bound x Absent hx h = omega (arith, total-size (uint x ∷ []), uint-width 8 x (omega arith) hx)
 last-bound x (Present n) hx h =
     omega (arith, total-size (uint x ∷ uint n ∷ []), uint-width 8 x (omega arith) hx, uint-width 8 n (omega arith) h)
@@ -61,21 +63,23 @@ to-bound : (a : Bytes) (u : ℕ) → isAddress a ≡ true → u < 2 ^ 16 → len
 to-bound a u ok hu =
     omega (arith, endpoint-size a u 0 ok hu (omega arith), fields-size a u 0 ok, address-size (length a) ok, uint-width 2 u (omega arith) hu, uint-size-small 0 (omega arith))
 
-node-bound : (n : Node) → NodeFits n → isAddressSize (n .endpoint .len) ≡ true → length (encode (nodeItem n)) ≤ 91
-node-bound n f ok =
+node-bound : (n : Node) → NodeGood n → length (encode (nodeItem n)) ≤ 91
+node-bound n h =
+    let a : Bytes = addressOf (n .endpoint) in
     let e = n .endpoint in
-    let a : isAddress (take (e .len) (e .address)) ≡ true = address-is (e .len) (e .address) ok (f .address) in
-    omega (arith, node-size (take (e .len) (e .address)) (e .udp) (e .tcp) (n .key) a (f .key) (f .udp) (f .tcp), fields-bound (take (e .len) (e .address)) (e .udp) (e .tcp) a (f .udp) (f .tcp))
+    let g = h .good in
+    let z = node-size a (e .udp) (e .tcp) (n .key) (g .sized) (h .key-sized) (omega (arith, g .udp-fits)) (omega (arith, g .tcp-fits)) in
+    omega (arith, z, fields-bound a (e .udp) (e .tcp) (g .sized) (omega (arith, g .udp-fits)) (omega (arith, g .tcp-fits)))
 
-nodes-bound : (ns : List Node) → NodesFit ns → haveAddresses ns ≡ true → length (encodes (map nodeItem ns)) ≤ 91 * length ns
-nodes-bound [] f ok = omega arith
-nodes-bound (n ∷ ns) f ok =
-    let a = and-left (isAddressSize (n .endpoint .len)) (haveAddresses ns) ok in
-    let b = and-right (isAddressSize (n .endpoint .len)) (haveAddresses ns) ok in
-    omega (arith, length-append (encode (nodeItem n)) (encodes (map nodeItem ns)), node-bound n (f .0) a, nodes-bound ns (f .1) b)
+nodes-bound : (ns : List Node) → NodesGood ns → length (encodes (map nodeItem ns)) ≤ 91 * length ns
+nodes-bound [] h = omega arith
+nodes-bound (n ∷ ns) h = omega (arith, length-append (encode (nodeItem n)) (encodes (map nodeItem ns)), node-bound n (h .0), nodes-bound ns (h .1))
+
+expiration-bound : (x : ℕ) → x < 2 ^ 64 → length (encode (uint x)) ≤ 9
+expiration-bound x h = omega (arith, uint-width 8 x (omega arith) h)
 
 -- each of the six
-pub ping-bound : (f : Bytes) (fu ft : ℕ) (t : Bytes) (tu x : ℕ) (e : EnrSeq) → canPing f t ≡ true → fu < 2 ^ 16 → ft < 2 ^ 16 → tu < 2 ^ 16 → x < 2 ^ 64 → EnrFits e
+pub ping-bound : (f : Bytes) (fu ft : ℕ) (t : Bytes) (tu x : ℕ) (e : EnrSeq) → canPing f t ≡ true → fu < 2 ^ 16 → ft < 2 ^ 16 → tu < 2 ^ 16 → x < 2 ^ 64 → SeqFits e
     → length (body 1 (pingItems 4 (endpoint f fu ft) (endpoint t tu 0) x (enrSeqItems e))) ≤ 68
 ping-bound f fu ft t tu x e ok hfu hft htu hx he =
     let items : List Item = pingItems 4 (endpoint f fu ft) (endpoint t tu 0) x (enrSeqItems e) in
@@ -90,7 +94,7 @@ ping-bound f fu ft t tu x e ok hfu hft htu hx he =
     ) in
     omega (arith, body-bound 1 1 items (omega arith))
 
-pub pong-bound : (t : Bytes) (tu : ℕ) (hash : Bytes) (x : ℕ) (e : EnrSeq) → canPong t hash ≡ true → tu < 2 ^ 16 → x < 2 ^ 64 → EnrFits e
+pub pong-bound : (t : Bytes) (tu : ℕ) (hash : Bytes) (x : ℕ) (e : EnrSeq) → canPong t hash ≡ true → tu < 2 ^ 16 → x < 2 ^ 64 → SeqFits e
     → length (body 2 (pongItems (endpoint t tu 0) hash x (enrSeqItems e))) ≤ 76
 pong-bound t tu hash x e ok htu hx he =
     let items : List Item = pongItems (endpoint t tu 0) hash x (enrSeqItems e) in
@@ -117,9 +121,6 @@ neighbors-bound ns x h hx =
     let b : length (encodes items) ≤ 1104 = omega (arith, total-size items, list-length (encodes ns), header-width 0xc0 2 (length (encodes ns)) (omega arith), uint-width 8 x (omega arith) hx) in
     omega (arith, body-bound 2 4 items (omega arith))
 
-pub listed-bound : (l : NodeList) → writableNodes l ≡ true → NodesFit (nodesIn l) → length (encodes (nodeItems l)) ≤ 1092
-listed-bound l ok f = omega (arith, nodes-bound (nodesIn l) f (addresses l ok), few l ok, length-take (l .len) (l .nodes))
-
 pub enr-request-bound : (x : ℕ) → x < 2 ^ 64 → length (body 5 (enrRequestItems x [])) ≤ 11
 enr-request-bound x hx =
     let items : List Item = enrRequestItems x [] in
@@ -132,21 +133,48 @@ enr-response-bound hash r s h ok =
     let b : length (encodes items) ≤ 333 = omega (arith, total-size items, string-short hash (omega arith) (omega arith), ap length (content-is r s ok), record-bound r ok) in
     omega (arith, body-bound 2 6 items (omega arith))
 
+pub both-true : {a b : Bool} → a ≡ true → b ≡ true → (a && b) ≡ true
+both-true p q = rw (p, q)
+
+pub size-of : (f : Fields) → Writable f → length (bodyOf f) ≤ 1108
+size-of (ping f) w =
+    omega (
+      arith,
+      ping-bound (f .from-address) (f .from-udp) (f .from-tcp) (f .to-address) (f .to-udp) (f .expiration) (f .enr-seq)
+          (both-true (w .from .sized) (w .to .sized)) (omega (arith, w .from .udp-fits)) (omega (arith, w .from .tcp-fits)) (omega (arith, w .to .udp-fits)) (w .expiration) (w .enr-seq),
+    )
+size-of (pong f) w =
+    omega (
+      arith,
+      pong-bound (f .to-address) (f .to-udp) (f .ping-hash) (f .expiration) (f .enr-seq)
+          (both-true (w .to .sized) (eq-eqb (length (f .ping-hash)) 32 (w .hash))) (omega (arith, w .to .udp-fits)) (w .expiration) (w .enr-seq),
+    )
+size-of (findNode f) w = omega (arith, find-node-bound (f .target) (f .expiration) (w .target) (w .expiration))
+size-of (neighbors f) w =
+    neighbors-bound (map nodeItem (f .nodes)) (f .expiration) (omega (arith, nodes-bound (f .nodes) (w .nodes), w .few)) (w .expiration)
+size-of (enrRequest f) w = omega (arith, enr-request-bound (f .expiration) w)
+size-of (enrResponse f) w =
+    omega (
+      arith,
+      enr-response-bound (f .request-hash) (f .enr) (w .enr) (eqb-true (length (f .request-hash)) 32 (and-left (eqb (length (f .request-hash)) 32) (isRecord (f .enr)) (w .can)))
+          (and-right (eqb (length (f .request-hash)) 32) (isRecord (f .enr)) (w .can)),
+    )
+
 -- every body that is written has 1 to 1,108 bytes
-pub body-range : {b : Bytes} → WrittenBody b → (1 ≤ length b) × (length b ≤ 1108)
-body-range (ping f fu ft t tu x e ok hfu hft htu hx he) = (omega arith, omega (arith, ping-bound f fu ft t tu x e ok hfu hft htu hx he))
-body-range (pong t tu hash x e ok htu hx he) = (omega arith, omega (arith, pong-bound t tu hash x e ok htu hx he))
-body-range (findNode target x ok hx) = (omega arith, omega (arith, find-node-bound target x (eqb-true (length target) 64 ok) hx))
-body-range (neighbors l x ok f hx) = (omega arith, neighbors-bound (nodeItems l) x (listed-bound l ok f) hx)
-body-range (enrRequest x hx) = (omega arith, omega (arith, enr-request-bound x hx))
-body-range (enrResponse hash r s ok) = (
-  omega arith,
-  omega (arith, enr-response-bound hash r s (eqb-true (length hash) 32 (and-left (eqb (length hash) 32) (isRecord r) ok)) (and-right (eqb (length hash) 32) (isRecord r) ok)),
-)
+some-byte : {b : Bytes} {f : Fields} → WrittenBody b f → 1 ≤ length b
+some-byte (written.ping f fu ft t tu x e ok hfu hft htu hx he) = omega arith
+some-byte (written.pong t tu hash x e ok htu hx he) = omega arith
+some-byte (written.findNode target x ok hx) = omega arith
+some-byte (written.neighbors l x ok f hx) = omega arith
+some-byte (written.enrRequest x hx) = omega arith
+some-byte (written.enrResponse hash r sl ok) = omega arith
+
+pub body-range : {b : Bytes} {f : Fields} → WrittenBody b f → (1 ≤ length b) × (length b ≤ 1108)
+body-range {b} {f} w = let r = wrote w in (some-byte w, omega (arith, size-of f (r .can), ap length (r .is)))
 
 -- so it can be joined
-pub written-joins : (signature : Bytes) {b : Bytes} → length signature ≡ 65 → WrittenBody b → Joins signature b
-written-joins signature {b} h w =
+pub written-joins : WrittenJoins
+written-joins signature b f h w =
     let r = body-range w in
     record {
       joins = rw (eq-eqb (length signature) 65 h, le-leb 1 (length b) (r .0), le-leb (length b) 1183 (omega (arith, r .1)));
@@ -180,4 +208,7 @@ reply-sizes =
           let ok : isAddress a ≡ true = ap isAddressSize la in
           omega (arith, node-size a u t key ok lk lu lt, fields-size a u t ok, two-byte u hu lu, two-byte t ht lt);
       expiration = λ x h l. omega (arith, uint-size-large x l (omega arith), length-uint x, width-more 7 x h, width-least 8 x l);
+      node-most = λ n f ok. omega (arith, node-bound (padNode n) (good n f ok), ap (λ (i : Item). length (encode i)) (same-item n f ok));
+      expiration-most = expiration-bound;
+      most = λ signature l x hs ok f hx. omega (arith, datagram-length signature (neighborsBody l x), body-range (written.neighbors l x ok f hx) .1);
     }

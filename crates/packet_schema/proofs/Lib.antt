@@ -3,3 +3,4 @@ pub mod Payload
 pub mod Turns
 pub mod Shapes
 pub mod Accepted
+pub mod Torn

@@ -1,35 +1,23 @@
--- "The second field of a place is the logarithmic distance, log2 of the distance rounded down": the number of an entry's bucket is that
--- logarithm. Assumes nothing.
+-- The number of an entry's bucket is the logarithm of its distance. Assumes nothing.
 use mathlib.Core.Path.{_≡_}
-use mathlib.Core.Bool.{true}
 use mathlib.Core.List.{List, [], _∷_}
-use Prim.Native.Nat.{ℕ, suc, _+_, _-_, _^_, _≤_, _<_}
+use Prim.Native.Nat.{ℕ, suc, _+_, _-_, _^_, _<_}
 use native.Mathlib.Omega.{arith}
 use borrow.Author.Tests.{leb-true, ltb-true}
 use lib.Dec.{leb, ltb}
 use lib.ListN.{length, getD}
-use Rattle.octets.specs.Octets.{Bytes, IsBytes}
+use Rattle.octets.specs.Octets.{Bytes}
 use Rattle.lists.proofs.Laws.{and-left, and-right, All-imp}
 use Rattle.keccak.specs.Sponge.{keccak256}
 use Rattle.distance.specs.Distance.{distance, inBucket, home}
 use Rattle.entry.specs.declared.Entry.{Entry}
 use Rattle.bucket_model.specs.Contents.{Contents, noContents}
-use Rattle.bucket_model.proofs.Sound.{EntrySound}
-use Rattle.bucket_model.proofs.Every.{Every}
+use Rattle.bucket_model.specs.Facts.{Every, EntrySound}
 use Rattle.table_model.specs.Layout.{ownOf, clockOf, countOf, numberAt, bucketsOf}
-use Rattle.table_model.specs.Sound.{tableSound}
-use Rattle.table_model.proofs.Sound.{SoundBucket, sound-is-table}
+use Rattle.table_model.specs.Facts.{SoundBucket}
+use Rattle.table_model.proofs.Sound.{sound-is-table}
 use Rattle.table_model.proofs.Table.{count-read}
-
--- n is the logarithm of an entry's distance from the node with the hash `own`, rounded down
-pub record Logarithm (own : Bytes) (n : ℕ) (e : Entry) : Type 0 where
-  pub least : 2 ^ n ≤ distance own (keccak256 (e .key))
-  pub less : distance own (keccak256 (e .key)) < 2 ^ (n + 1)
-
--- P holds of each bucket with its number; the first has this one, and they rise as in `bucketsRows`
-abbrev pub Numbered : (ℕ → Contents → Type 0) → ℕ → List Contents → Type 0
-Numbered P number [] = Unit {0}
-Numbered P number (b ∷ bs) = P number b × Numbered P (suc number) bs
+use Rattle.printout.specs.Claims.{Logarithm, Numbered, PrintedDistance}
 
 numbered : (P : ℕ → Contents → Type 0) (number : ℕ) (bs : List Contents) → ((j : ℕ) → j < length bs → P (number + j) (getD bs j noContents))
     → Numbered P number bs
@@ -50,9 +38,7 @@ entry-logarithm own n clock e h =
       less = ltb-true d (2 ^ (n + 1)) (and-right (leb (2 ^ n) d) (ltb d (2 ^ (n + 1))) (h .at-home));
     }
 
--- the number printed with each entry and each replacement of a sound table
-pub printed-distance : (s : Bytes) → IsBytes s → tableSound s ≡ true
-    → Numbered (λ number b. Every (Logarithm (ownOf s) number) b) (256 - countOf s) (bucketsOf s)
+pub printed-distance : PrintedDistance
 printed-distance s bs h =
     numbered (λ number b. Every (Logarithm (ownOf s) number) b) (256 - countOf s) (bucketsOf s)
     (λ j k.

@@ -16,9 +16,9 @@ use Rattle.printout_entry.specs.EntryRow.{entryRow}
 use Rattle.printout_entry.proofs.Rows.{entry-bound}
 use Rattle.distance.specs.Distance.{home}
 use Rattle.entry.specs.declared.Entry.{Entry}
-use Rattle.entry.proofs.Laws.{IsEntry}
+use Rattle.entry.specs.Values.{IsEntry}
 use Rattle.bucket_model.specs.Contents.{Contents, noContents}
-use Rattle.bucket_model.proofs.ByteForm.{IsContents}
+use Rattle.bucket_model.specs.Facts.{IsContents}
 use Rattle.bucket_model.proofs.Values.{sound-contents}
 use Rattle.table_model.specs.Layout.{ownOf, clockOf, countOf, numberAt, bucketsOf}
 use Rattle.table_model.specs.Sound.{tableSound}

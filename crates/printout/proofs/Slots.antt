@@ -11,11 +11,12 @@ use Rattle.lists.proofs.Laws.{and-left, and-right, All-imp, or-elim}
 use Rattle.distance.specs.Distance.{home}
 use Rattle.entry.specs.declared.Entry.{Entry}
 use Rattle.bucket_model.specs.Contents.{Contents, entriesAt}
-use Rattle.bucket_model.proofs.Sound.{EntrySound}
+use Rattle.bucket_model.specs.Facts.{EntrySound}
 use Rattle.bucket_model.proofs.ByteForm.{decode-bucket}
 use Rattle.table_model.specs.Layout.{ownOf, clockOf, countOf, offsetOf, numberAt, bucketAt, headerSound}
 use Rattle.table_model.specs.Sound.{bucketSound, bucketsSound, tableSound}
-use Rattle.table_model.proofs.Sound.{SoundBucket, all-below, counts-at, table-header, sound-is-table}
+use Rattle.table_model.specs.Facts.{SoundBucket}
+use Rattle.table_model.proofs.Sound.{all-below, counts-at, table-header, sound-is-table}
 use Rattle.table_model.proofs.Table.{count-read, bucket-read}
 use Rattle.printout_entry.specs.EntryRow.{HasAddress}
 use Rattle.printout.specs.Steps.{BucketIn}

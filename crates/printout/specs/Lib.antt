@@ -1,3 +1,4 @@
 pub mod TableRow
 pub mod Steps
 pub mod Printout
+pub mod Claims

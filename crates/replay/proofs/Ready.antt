@@ -14,8 +14,8 @@ use Rattle.log_own.specs.declared.Replay.{Replay}
 use Rattle.log_own.specs.declared.Stepped.{Stepped}
 use Rattle.log_own.specs.Steps.{stateOf}
 use Rattle.log_replay.specs.Replay.{after, start, line}
-use Rattle.log_replay.specs.Steps.{AnsweredLine}
-use Rattle.log_replay.proofs.Replayed.{startReplay, start-state}
+use Rattle.log_replay.specs.Steps.{startReplay, AnsweredLine}
+use Rattle.log_replay.proofs.Replayed.{start-state}
 use Rattle.replay.specs.declared.Progress.{Progress}
 use Rattle.replay.specs.Steps.{Ready}
 

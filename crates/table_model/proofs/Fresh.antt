@@ -1,15 +1,14 @@
 -- A table with nothing held: its bytes, and that it is sound. Assumes nothing.
 use mathlib.Core.Path.{_≡_, refl, ap, _∙_}
 use mathlib.Core.List.{_∷_, _++_, flatMap}
-use Prim.Native.Nat.{ℕ, zero, suc, _+_, _*_, _≤_, _<_}
+use Prim.Native.Nat.{ℕ, zero, suc, _+_, _*_, _<_}
 use native.Mathlib.Omega.{arith}
 use lib.ListN.{length, replicate, length-replicate, getD-replicate, replicate-append-replicate}
-use Rattle.octets.specs.Octets.{Bytes}
 use Rattle.distance.specs.Distance.{home}
 use Rattle.bucket_model.specs.Contents.{noContents, encodeEntries, encodeList, encodeBucket}
 use Rattle.bucket_model.proofs.Kept.{sound-fresh}
 use Rattle.table_model.specs.Layout.{numberAt}
-use Rattle.table_model.proofs.Sound.{SoundTable}
+use Rattle.table_model.specs.Claims.{FreshForm}
 
 -- an empty bucket is zeros
 empty-zeros : encodeBucket noContents ≡ replicate 2862 0
@@ -26,8 +25,7 @@ fresh-zeros (suc n) =
     ∙ replicate-append-replicate 2862 (n * 2862) 0
     ∙ ap (λ (m : ℕ). replicate m 0) e
 
--- "A fresh table is sound for every own key and every B"
-pub fresh-form : (own : Bytes) (count : ℕ) → length own ≡ 32 → 1 ≤ count → count ≤ 256 → SoundTable own 0 (replicate count noContents)
+pub fresh-form : FreshForm
 fresh-form own count n one most =
     let size : length (replicate count noContents) ≡ count = length-replicate count noContents in
     record {

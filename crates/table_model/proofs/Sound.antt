@@ -2,7 +2,7 @@
 use mathlib.Core.Path.{_≡_, refl, sym, ap, _∙_}
 use mathlib.Core.Bool.{Bool, true, false, _&&_}
 use mathlib.Core.List.{List, [], _∷_, _++_, flatMap}
-use Prim.Native.Nat.{ℕ, zero, suc, _+_, _^_, _≤_, _<_}
+use Prim.Native.Nat.{ℕ, zero, suc, _+_, _≤_, _<_}
 use native.Mathlib.Nat.{add-zero}
 use native.Mathlib.Omega.{arith}
 use borrow.Author.Tests.{leb-true, eqb-true, eqb-false}
@@ -15,14 +15,14 @@ use Rattle.lists.proofs.Laws.{byTest, and-left, and-right}
 use Rattle.distance.specs.Distance.{home}
 use Rattle.bucket_model.specs.Contents.{Contents, noContents, encodeBucket, decodeBucket}
 use Rattle.bucket_model.specs.Sound.{keepsRules, sound}
-use Rattle.entry.proofs.Laws.{IsEntry}
-use Rattle.bucket_model.proofs.ByteForm.{IsContents, decode-encode-bucket, length-bucket}
+use Rattle.bucket_model.specs.Facts.{IsContents}
+use Rattle.bucket_model.proofs.ByteForm.{decode-encode-bucket, length-bucket}
 use Rattle.bucket_model.proofs.Exact.{sound-has-form}
-use Rattle.bucket_model.proofs.Sound.{BucketSound}
-use Rattle.bucket_model.proofs.Every.{Every}
 use Rattle.bucket_model.proofs.Values.{sound-contents, sound-encoded, decoded-sound}
 use Rattle.table_model.specs.Layout.{encodeHeader, encodeTable, offsetOf, numberAt, ownOf, clockOf, countOf, bucketBytes, bucketAt, bucketsOf, headerSound}
 use Rattle.table_model.specs.Sound.{allBelow, bucketSound, bucketsSound, tableSound}
+pub use Rattle.table_model.specs.Facts.{SoundBucket, SoundTable}
+use Rattle.table_model.specs.Claims.{SoundIsTable, TableOfSound, FormIsSound, FormInjective}
 use Rattle.table_model.proofs.Records.{flatMap-tabulate}
 use Rattle.table_model.proofs.Header.{HeaderSound, header-sound, sound-header, header-form}
 use Rattle.table_model.proofs.Table.{SizedBuckets, count-read, bucket-read, own-table, clock-table, count-table, zeros-table, length-table, bucket-table, buckets-table}
@@ -47,11 +47,6 @@ below-false n q i k h =
     byTest (allBelow n q) (λ t. absurd (let both : true ≡ false = sym (all-below n q t i k) ∙ h in let z : _≡_ {A = ℕ} 0 1 = cc in omega arith)) (λ t. t)
 
 -- ---- a bucket
-
--- sound contents, of values that have a byte form
-pub record SoundBucket (home : Bytes → Bool) (clock : ℕ) (m : Contents) : Type 0 where
-  pub rules : BucketSound home clock m
-  pub values : Every IsEntry m
 
 module _ (home : Bytes → Bool) (clock : ℕ) (m : Contents) (b : SoundBucket home clock m) where
   is-contents : IsContents m
@@ -94,14 +89,6 @@ counts-at home clock s at fits h =
     (omega (arith, n .0), omega (arith, n .1))
 
 -- ---- a table
-
--- a sound table by its contents
-pub record SoundTable (own : Bytes) (clock : ℕ) (buckets : List Contents) : Type 0 where
-  pub own-size : length own ≡ 32
-  pub clock-fits : clock < 2 ^ 64
-  pub one : 1 ≤ length buckets
-  pub most : length buckets ≤ 256
-  pub each : (j : ℕ) → j < length buckets → SoundBucket (home own (numberAt (length buckets) j)) clock (getD buckets j noContents)
 
 All-getD : {A : Type 0} (P : A → Type 0) (l : List A) (d : A) → ((j : ℕ) → j < length l → P (getD l j d)) → All P l
 All-getD P [] d h = tt
@@ -147,56 +134,49 @@ module _ (own : Bytes) (clock : ℕ) (buckets : List Contents) (f : SoundTable o
       simp (own-back, clock-back, count-back, bucket-table own clock buckets (f .own-size) sized-table j k′)
       (sound-encoded (home own (numberAt (length buckets) j)) clock (getD buckets j noContents) (f .each j k′ .rules) (f .each j k′ .values)))
 
-  -- the byte form of a sound table is sound
-  pub form-is-sound : tableSound (encodeTable own clock buckets) ≡ true
-  unfolding tableSound
-  form-is-sound = cc (header-of-form, buckets-of-form)
+pub form-is-sound : FormIsSound
+unfolding tableSound
+form-is-sound own clock buckets f = cc (header-of-form own clock buckets f, buckets-of-form own clock buckets f)
 
 -- sound bytes are the byte form of what they hold, and that is a sound table
 pub table-header : (s : Bytes) → tableSound s ≡ true → HeaderSound s
 unfolding tableSound
 table-header s h = header-sound s (and-left (headerSound s) (bucketsSound s) h)
 
-module _ (s : Bytes) (bs : IsBytes s) (h : tableSound s ≡ true) where
-  header-holds : HeaderSound s
-  header-holds = table-header s h
-
+module _ (s : Bytes) (h : tableSound s ≡ true) where
   bucket-holds : (j : ℕ) → j < countOf s → bucketSound s j ≡ true
   unfolding tableSound bucketsSound
   bucket-holds j k = all-below (countOf s) (bucketSound s) (and-right (headerSound s) (bucketsSound s) h) j k
 
   slot-size : (j : ℕ) → j < countOf s → length (bucketBytes s j) ≡ 2862
-  slot-size j k = length-part s (offsetOf j) 2862 (omega (arith, header-holds .size))
+  slot-size j k = length-part s (offsetOf j) 2862 (omega (arith, table-header s h .size))
 
-  pub sound-is-table : SoundTable (ownOf s) (clockOf s) (bucketsOf s)
-  sound-is-table =
-      record {
-        own-size = length-part s 0 32 (omega (arith, header-holds .size));
-        clock-fits = number-less s 32 8 (omega (arith, header-holds .size)) bs;
-        one = omega (arith, count-read s, header-holds .one);
-        most = omega (arith, count-read s, header-holds .most);
-        each = λ j k.
-            let k′ : j < countOf s = omega (arith, count-read s) in
-            simp (count-read s, bucket-read s j k′)
-            (decoded-bucket (home (ownOf s) (numberAt (countOf s) j)) (clockOf s) (bucketBytes s j) (slot-size j k′)
-            (bytes-part s (offsetOf j) 2862 bs) (bucket-holds j k′));
-      }
+pub sound-is-table : SoundIsTable
+sound-is-table s bs h =
+    record {
+      own-size = length-part s 0 32 (omega (arith, table-header s h .size));
+      clock-fits = number-less s 32 8 (omega (arith, table-header s h .size)) bs;
+      one = omega (arith, count-read s, table-header s h .one);
+      most = omega (arith, count-read s, table-header s h .most);
+      each = λ j k.
+          let k′ : j < countOf s = omega (arith, count-read s) in
+          simp (count-read s, bucket-read s j k′)
+          (decoded-bucket (home (ownOf s) (numberAt (countOf s) j)) (clockOf s) (bucketBytes s j) (slot-size s h j k′)
+          (bytes-part s (offsetOf j) 2862 bs) (bucket-holds s h j k′));
+    }
 
-  pub table-of-sound : encodeTable (ownOf s) (clockOf s) (bucketsOf s) ≡ s
-  unfolding encodeTable bucketsOf
-  table-of-sound =
-      let all : flatMap encodeBucket (bucketsOf s) ≡ drop 512 s =
-      flatMap-tabulate encodeBucket 2862 (countOf s) (bucketAt s) s 512 (header-holds .size)
-      (λ j k. encoded-bucket (home (ownOf s) (numberAt (countOf s) j)) (clockOf s) (bucketBytes s j) (slot-size j k)
-      (bytes-part s (offsetOf j) 2862 bs) (bucket-holds j k)) in
-      ap (λ (n : ℕ). encodeHeader (ownOf s) (clockOf s) n ++ flatMap encodeBucket (bucketsOf s)) (count-read s)
-      ∙ ap (λ l. encodeHeader (ownOf s) (clockOf s) (countOf s) ++ l) all
-      ∙ sym (header-form s bs header-holds)
+pub table-of-sound : TableOfSound
+unfolding encodeTable bucketsOf
+table-of-sound s bs h =
+    let all : flatMap encodeBucket (bucketsOf s) ≡ drop 512 s =
+    flatMap-tabulate encodeBucket 2862 (countOf s) (bucketAt s) s 512 (table-header s h .size)
+    (λ j k. encoded-bucket (home (ownOf s) (numberAt (countOf s) j)) (clockOf s) (bucketBytes s j) (slot-size s h j k)
+    (bytes-part s (offsetOf j) 2862 bs) (bucket-holds s h j k)) in
+    ap (λ (n : ℕ). encodeHeader (ownOf s) (clockOf s) n ++ flatMap encodeBucket (bucketsOf s)) (count-read s)
+    ∙ ap (λ l. encodeHeader (ownOf s) (clockOf s) (countOf s) ++ l) all
+    ∙ sym (header-form s bs (table-header s h))
 
--- one byte form for each table: sound tables with the same bytes are the same
-pub form-injective : (own own′ : Bytes) (clock clock′ : ℕ) (buckets buckets′ : List Contents)
-    → SoundTable own clock buckets → SoundTable own′ clock′ buckets′ → encodeTable own clock buckets ≡ encodeTable own′ clock′ buckets′
-    → (own ≡ own′) × ((clock ≡ clock′) × (buckets ≡ buckets′))
+pub form-injective : FormInjective
 form-injective own own′ clock clock′ buckets buckets′ f f′ e = (
   sym (own-back own clock buckets f) ∙ ap ownOf e ∙ own-back own′ clock′ buckets′ f′,
   (

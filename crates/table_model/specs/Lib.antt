@@ -1,2 +1,4 @@
 pub mod Layout
 pub mod Sound
+pub mod Facts
+pub mod Claims

@@ -16,6 +16,7 @@ use Rattle.octets.proofs.Laws.{store-last}
 use Rattle.lists.proofs.Laws.{byTest, never, and-left, and-right}
 use Rattle.text.specs.declared.Decimal.the-variants.{Value, NotDecimal}
 use Rattle.text.specs.Decimals.{digits, decimal, isDigit, digitsFrom, wellBegun, decimalOf}
+use Rattle.text.specs.Claims.{DecimalRead, DecimalSound}
 
 -- any number of places that is enough gives the same
 digits-enough : (j k n : ℕ) → n < j → n < k → digits j n ≡ digits k n
@@ -105,8 +106,7 @@ begun : (n : ℕ) → wellBegun (decimal n) ≡ true
 begun zero = rw (decimal-one 0 (omega arith))
 begun (suc n) = rw append-nil at (begins (suc (suc n)) (suc n) [] (omega arith) (omega arith))
 
--- what is written reads back
-pub decimal-read : (limit n : ℕ) → n ≤ limit → decimalOf limit (decimal n) ≡ Value n
+pub decimal-read : DecimalRead
 unfolding decimalOf
 decimal-read limit n h = rw (begun n) (rw append-nil at (reads-on (suc n) limit n [] (omega arith) h))
 
@@ -156,8 +156,7 @@ from-first limit b (c ∷ s) n w d =
     let one : decimal (0 * 10 + (b - 48)) ≡ b ∷ [] = rw same at (decimal-one (0 * 10 + (b - 48)) (omega arith)) in
     (ap (λ (x : Bytes). x ++ c ∷ s) (sym one) ∙ rest .0, rest .1)
 
--- what is read is the decimal of that number
-pub decimal-sound : (limit : ℕ) (s : Bytes) (n : ℕ) → decimalOf limit s ≡ Value n → (s ≡ decimal n) × (n ≤ limit)
+pub decimal-sound : DecimalSound
 unfolding decimalOf
 decimal-sound limit [] n r = not-value r
 decimal-sound limit (b ∷ s) n r =

@@ -17,6 +17,7 @@ use Rattle.octets.proofs.Laws.{store-append}
 use Rattle.lists.specs.Lists.{empty}
 use Rattle.lists.proofs.Laws.{byTest, never, and-left, and-right}
 use Rattle.text.specs.Hex.{hexDigit, hex, isHexDigit, hexPairs, isHex, hexValue, unhex}
+use Rattle.text.specs.Claims.{HexRead, HexSound}
 
 -- ---- digits
 
@@ -52,7 +53,6 @@ value-digit b h =
 
 -- ---- both ways
 
--- what is written reads back
 pub unhex-hex : (s : Bytes) → IsBytes s → unhex (hex s) ≡ s
 unfolding unhex
 unhex-hex [] bs = refl
@@ -65,12 +65,11 @@ pairs-hex : (s : Bytes) → IsBytes s → hexPairs (hex s) ≡ true
 pairs-hex [] bs = refl
 pairs-hex (b ∷ s) bs = rw (digit-below (b / 16) (omega (arith, bs 0)) .0, digit-below (b % 16) (omega arith) .0) (pairs-hex s (λ i. bs (suc i)))
 
-pub hex-read : (s : Bytes) → IsBytes s → 0 < length s → isHex (hex s) ≡ true
+pub hex-read : HexRead
 unfolding isHex
 hex-read [] bs p = absurd (omega arith)
-hex-read (b ∷ s) bs p = pairs-hex (b ∷ s) bs
+hex-read (b ∷ s) bs p = (pairs-hex (b ∷ s) bs, unhex-hex (b ∷ s) bs)
 
--- what is read is the hex of those bytes
 pairs-sound : (s : Bytes) → hexPairs s ≡ true → hex (unhex s) ≡ s
 unfolding unhex
 pairs-sound [] h = refl
@@ -83,7 +82,7 @@ pairs-sound (a ∷ b ∷ s) h =
     ∙ ap (λ (x : ℕ). a ∷ x ∷ hex (unhex s)) low
     ∙ ap (λ (l : Bytes). a ∷ b ∷ l) (pairs-sound s (and-right (isHexDigit a && isHexDigit b) (hexPairs s) h))
 
-pub hex-sound : (s : Bytes) → isHex s ≡ true → hex (unhex s) ≡ s
+pub hex-sound : HexSound
 unfolding isHex
 hex-sound s h = pairs-sound s (and-right (not (empty s)) (hexPairs s) h)
 

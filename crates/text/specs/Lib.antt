@@ -1,3 +1,4 @@
 pub mod Decimals
 pub mod Hex
 pub mod Rows
+pub mod Claims

@@ -109,6 +109,9 @@ extern "C" {
         nodes_len: usize,
         expiration: u64,
     ) -> u32;
+    fn coghammer_reply_count(nodes: usize) -> usize;
+    fn coghammer_reply_start(nodes: usize, k: usize) -> usize;
+    fn coghammer_reply_len(nodes: usize, k: usize) -> usize;
     fn coghammer_write_enr_request(buf: *mut u8, buf_len: usize, expiration: u64) -> u32;
     fn coghammer_write_enr_response(
         buf: *mut u8,
@@ -325,6 +328,16 @@ pub fn write_find_node(buf: &mut [u8], target: &[u8], expiration: u64) -> u32 {
 pub fn write_neighbors(buf: &mut [u8], nodes: &[u8], expiration: u64) -> u32 {
     // SAFETY: as for `write_ping`; the nodes are bytes, of any number.
     unsafe { coghammer_write_neighbors(buf.as_mut_ptr(), buf.len(), nodes.as_ptr(), nodes.len(), expiration) }
+}
+
+pub fn reply_count(nodes: usize) -> usize {
+    // SAFETY: numbers only.
+    unsafe { coghammer_reply_count(nodes) }
+}
+
+pub fn reply_part(nodes: usize, k: usize) -> (usize, usize) {
+    // SAFETY: numbers only.
+    unsafe { (coghammer_reply_start(nodes, k), coghammer_reply_len(nodes, k)) }
 }
 
 pub fn write_enr_request(buf: &mut [u8], expiration: u64) -> u32 {

@@ -55,7 +55,15 @@ pub fn find_node(buf: &mut [u8], target: &[u8], expiration: u64) -> Result<usize
     size(sys::write_find_node(buf, target, expiration))
 }
 
-/// At most 12 nodes: a reply of sixteen is two packets, of 12 and 4.
+/// Which of a reply's nodes each of its Neighbors packets has: of sixteen the first 12, then 4; of none one packet with no node.
+pub fn reply_parts(nodes: usize) -> impl Iterator<Item = std::ops::Range<usize>> {
+    (0..sys::reply_count(nodes)).map(move |k| {
+        let (start, len) = sys::reply_part(nodes, k);
+        start..start + len
+    })
+}
+
+/// At most 12 nodes: see [`reply_parts`].
 pub fn neighbors(buf: &mut [u8], nodes: &[Node], expiration: u64) -> Result<usize, Number> {
     let packed: Vec<u8> = nodes.iter().flat_map(packed).collect();
     size(sys::write_neighbors(buf, &packed, expiration))

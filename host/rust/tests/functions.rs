@@ -89,6 +89,8 @@ fn one_peer() {
     assert_eq!(rx(&mut table, &mut counters, 700, &find), Ok(Accepted::FindNode));
     let nodes = datagram(&write::in_vec(|buf| write::neighbors(buf, &[node], UNIX.0)).unwrap());
     assert_eq!(rx(&mut table, &mut counters, 700, &nodes), Ok(Accepted::Neighbors));
+    assert_eq!(write::reply_parts(16).collect::<Vec<_>>(), [0..12, 12..16]);
+    assert_eq!(write::reply_parts(0).collect::<Vec<_>>(), [0..0]);
     let enr = datagram(&write::in_vec(|buf| write::enr_request(buf, UNIX.0)).unwrap());
     assert_eq!(rx(&mut table, &mut counters, 700, &enr), Ok(Accepted::EnrRequest));
     let record = datagram(&write::in_vec(|buf| write::enr_response(buf, &hash, &[0xc1, 5])).unwrap());

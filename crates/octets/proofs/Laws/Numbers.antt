@@ -9,6 +9,7 @@ use native.Mathlib.Numerals.{add-one}
 use lib.Seq.{take-suc, getD-drop, append-snoc}
 use lib.Arith.{digits-div, digits-mod}
 use Rattle.octets.specs.Octets.{Bytes, IsBytes, part, store, numberFrom, number, bigEndian}
+use Rattle.octets.specs.Claims.{NumberBigEndian, BigEndianNumber}
 use Rattle.octets.proofs.Laws.Stores.{store-last}
 use Rattle.octets.proofs.Laws.Parts.{length-part}
 use Rattle.octets.proofs.Laws.Slices.{bytes-part, bytes-append}
@@ -23,8 +24,7 @@ unfolding numberFrom
 numberFrom-append [] t a = refl
 numberFrom-append (b ∷ s) t a = numberFrom-append s t (a * 256 + b)
 
--- a number is read back from its bytes, at every width that holds it
-pub number-bigEndian : (w x : ℕ) → x < 256 ^ w → number (bigEndian w x) ≡ x
+pub number-bigEndian : NumberBigEndian
 unfolding bigEndian numberFrom
 number-bigEndian zero x h = omega arith
 number-bigEndian (suc w) x h =
@@ -90,7 +90,7 @@ bigEndian-from (b ∷ s) w a bs =
     ∙ ap (λ (r : ℕ). (bigEndian w a ++ (r ∷ [])) ++ s) (digits-mod a (bs 0))
     ∙ append-snoc (bigEndian w a) b s
 
-pub bigEndian-number : (s : Bytes) → IsBytes s → bigEndian (length s) (number s) ≡ s
+pub bigEndian-number : BigEndianNumber
 unfolding bigEndian
 bigEndian-number s bs = rw (zero-add (length s)) at (bigEndian-from s 0 0 bs)
 

@@ -13,6 +13,7 @@ use Rattle.rlp.specs.Encoding as rlp
 use Rattle.rlp.specs.Reading.{head, extent, whole, count, offset}
 use Rattle.rlp.specs.declared.Header.{Header}
 use Rattle.rlp.specs.declared.Header.the-variants.{Item, Broken}
+use Rattle.rlp.specs.Claims.{WholeEncodes, WholeIsEncodes}
 use Rattle.rlp.proofs.Reading.{item-bounds, whole-next, whole-broken, whole-nil, count-next, count-nil, offset-broken}
 use Rattle.rlp.proofs.Encoding.Reads.{read-item, read-payload, read-rest, encode-length}
 use Rattle.rlp.proofs.Encoding.Sound.{head-none, read-sound}
@@ -40,7 +41,7 @@ module _ (i : rlp.Item) (is : List rlp.Item) (small : Small (i ∷ is)) where
 
 -- ---- what is written reads back
 
-pub whole-encodes : (is : List rlp.Item) → Small is → whole (encodes is) ≡ true
+pub whole-encodes : WholeEncodes
 whole-encodes [] h = whole-nil
 whole-encodes (i ∷ is) h =
     whole-next (encodes (i ∷ is)) (first-some i is h) ∙ ap whole (first-rest i is h) ∙ whole-encodes is (small-rest i is h)
@@ -107,7 +108,7 @@ split-up : (fuel : ℕ) (s : Bytes) → length s ≤ fuel → Slice s → whole 
 split-up zero s l sl w = ([], sym (drop-of-length-le s l))
 split-up (suc fuel) s l sl w = split-one s sl w (λ k p. split-up fuel (drop k s) (omega (arith, length-drop k s)) (slice-drop k s sl))
 
-pub whole-is-encodes : (s : Bytes) → Slice s → whole s ≡ true → (is : List rlp.Item) × (encodes is ≡ s)
+pub whole-is-encodes : WholeIsEncodes
 whole-is-encodes s sl w = split-up (length s) s (omega arith) sl w
 
 -- the items of a slice are small

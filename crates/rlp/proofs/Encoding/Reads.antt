@@ -12,11 +12,12 @@ use lib.ListN.{length, getD, take, drop, length-append, List·getD-append}
 use lib.Seq.{drop-at, take-append-seam}
 use Rattle.octets.specs.Octets.{Bytes, part, number}
 use Rattle.rlp.specs.Numbers.{uintBytes}
-use Rattle.rlp.specs.Encoding.{header, isPlain, encode, string, list, isList, payloadOf, prefix}
+use Rattle.rlp.specs.Encoding.{header, isPlain, encode, string, list, payloadOf, prefix}
 use Rattle.rlp.specs.Encoding as rlp
 use Rattle.rlp.specs.Reading.{long, sized, strict, head}
 use Rattle.rlp.specs.declared.Header.{Header}
 use Rattle.rlp.specs.declared.Header.the-variants.{Item}
+use Rattle.rlp.specs.Claims.{ReadItem}
 use Rattle.rlp.proofs.Cases.{by-cases, by-eqb}
 use Rattle.rlp.proofs.Numbers.{uint-bound, uint-number, uint-lead}
 use Rattle.rlp.proofs.Writing.{header-short, header-long, encode-plain}
@@ -174,8 +175,7 @@ read-string s rest small e =
     let g : length s ≡ 1 → 0x80 ≤ getD (f .first ∷ f .after) 1 0 = λ o. subst (λ (x : ℕ). 0x80 ≤ x) (sym (f .one o)) (not-plain s e o) in
     rw e (ap head (f .splits) ∙ head-middle (f .first) (f .after) (f .low) (f .high) ∙ ap (strict (f .first ∷ f .after)) (f .reads) ∙ strict-item (f .first ∷ f .after) false _ (length s) g)
 
--- the encoding of any item is read as that item, whatever follows it
-pub read-item : (i : rlp.Item) (rest : Bytes) → length (payloadOf i) < 2 ^ 64 → head (encode i ++ rest) ≡ Item (isList i) (length (prefix i)) (length (payloadOf i))
+pub read-item : ReadItem
 unfolding prefix
 read-item (list p) rest small = read-list p rest small
 read-item (string s) rest small = go (isPlain s) refl

@@ -17,6 +17,7 @@ use Rattle.rlp.specs.Encoding.{header, encode, itemOf}
 use Rattle.rlp.specs.Reading.{within, long, sized, strict, head}
 use Rattle.rlp.specs.declared.Header.{Header}
 use Rattle.rlp.specs.declared.Header.the-variants.{Item, Broken}
+use Rattle.rlp.specs.Claims.{ReadIsEncoding}
 use Rattle.rlp.proofs.Cases.{by-leb, by-ltb, by-eqb}
 use Rattle.rlp.proofs.Numbers.{number-uint}
 use Rattle.rlp.proofs.Writing.{header-short, header-long, plain-not}
@@ -120,6 +121,8 @@ head-sound (b ∷ t) bs = go (ltb b 0x80) refl (ltb b 0xc0) refl
         subst (Sound (b ∷ t)) (sym (head-high b t (ltb-false b 0xc0 f)))
         (sound-list (b ∷ t) (sized (b ∷ t) true (b - 0xc0)) (frame-sized 0xc0 b t true tail (ltb-false b 0xc0 f)))
 
--- what is read as an item is that item's encoding, and what follows it
+pub read-is-encoding : ReadIsEncoding
+read-is-encoding s l skip size sl e = subst (Sound s) e (head-sound s (sl .bytes))
+
 pub read-sound : (s : Bytes) {l : Bool} {skip size : ℕ} → Slice s → head s ≡ Item l skip size → encode (itemOf l (part s skip size)) ++ drop (skip + size) s ≡ s
-read-sound s sl e = subst (Sound s) e (head-sound s (sl .bytes))
+read-sound s sl e = read-is-encoding s _ _ _ sl e
