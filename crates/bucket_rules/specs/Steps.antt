@@ -1,6 +1,5 @@
--- A node that was looked up by its key.
--- What a rule changes at the position where a node is held.
--- The sweep's steps: which entries of a list stay, and one replacement promoted after the other.
+-- Steps of the rules by value: a node looked up by its key; what a rule changes at the position where it is held; in a sweep which entries of a list
+-- stay, and one replacement promoted after the other.
 use Prim.Native.Nat.{ℕ, _<_}
 use mathlib.Core.Path.{_≡_}
 use mathlib.Core.Bool.{Bool, true, false, cond, _&&_}

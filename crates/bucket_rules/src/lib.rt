@@ -1,4 +1,4 @@
-// The rules of one bucket by value: ping sent, pong, and other packets.
+// The rules of one bucket by value: a node looked up by its key with the tests of 13 to 18, ping sent, pong, other packets, and the sweep.
 ghost use mathlib.Core.Path.{_≡_};
 ghost use mathlib.Core.Bool.{cond, not, _&&_, _||_};
 ghost use Prim.Native.Nat.{_≤_, _<_};

@@ -1,5 +1,5 @@
--- The tests of a datagram before its sender's bucket is asked, one after the other.
--- The packet p of the datagram g reaches the bucket in a slot: what is answered, and the bytes after it.
+-- Steps of the datagram call: the tests before the sender's bucket is asked, one after the other; then the packet reaches the bucket in a slot, what is
+-- answered, and the bytes after it.
 use Prim.Native.Nat.{ℕ}
 use mathlib.Core.Bool.{Bool, cond, not}
 use mathlib.Core.List.{List, [], _∷_}
@@ -18,8 +18,9 @@ use Rattle.call_history.specs.Model as model
 use Rattle.call_model.specs.Calls.{envOf, unsoundFor}
 use Rattle.call_model.specs.Reading.{reading, packetReading}
 use Rattle.table.specs.declared.Touched.{Touched}
-use Rattle.table.specs.declared.Touched.the-variants.{WrongKey, Own, NotKept, Slot}
-use Rattle.call_touched.specs.Steps.{keyTests, withBucket}
+use Rattle.call_touched.specs.declared.Placed.{Placed}
+use Rattle.call_touched.specs.declared.Placed.the-variants.{NotPlaced, In}
+use Rattle.call_touched.specs.Steps.{keyTests, keptPlace, withBucket}
 use Rattle.bucket_model.specs.Contents.{Contents}
 use Rattle.bucket.specs.Steps.{Shows}
 use Rattle.call_answer.specs.Answer.{accepted, unlessRefused}
@@ -33,12 +34,13 @@ use Rattle.call_datagram.specs.declared.Reply.{Reply}
 abbrev pub datagramTests : ℕ → ℕ → Bytes → Touched → Bytes → List (Bool × ℕ)
 datagramTests clock now g t address = (ltb now clock, 2) ∷ (not (isSized g), 3) ∷ (not (hashMatches g), 4) ∷ keyTests t address
 
--- 8 to 12: the slot and the packet, or the number
+-- 12, or the slot and the packet
+abbrev pub withPacket : Placed → Packet → Judged
+withPacket (NotPlaced n) p = Refused n
+withPacket (In i) p = Passed i p
+
 abbrev pub keptSlot : Touched → Packet → Judged
-keptSlot WrongKey p = Refused 12
-keptSlot Own p = Refused 12
-keptSlot NotKept p = Refused 12
-keptSlot (Slot i) p = Passed i p
+keptSlot t p = withPacket (keptPlace t) p
 
 abbrev pub afterReading : Touched → Parsed → Judged
 afterReading t (parsed.Packet p) = keptSlot t p

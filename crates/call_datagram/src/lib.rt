@@ -22,6 +22,7 @@ use bucket::Bucket;
 use bucket_rules::Lookup;
 use call_answer::Outcome;
 use call_answer::Received;
+use call_touched::Placed;
 use call_touched::Reach;
 use node::MonotonicMillis;
 use node::UnixSeconds;
@@ -67,11 +68,9 @@ fn datagram_number(
 fn kept_slot(touched: Touched, packet: Packet) -> Judged
     ensures { λ r. ⌜ r ≡ keptSlot touched packet ⌝ }
 {
-    match touched {
-        Touched::WrongKey => Judged::Refused(numbers::NOT_KEPT),
-        Touched::Own => Judged::Refused(numbers::NOT_KEPT),
-        Touched::NotKept => Judged::Refused(numbers::NOT_KEPT),
-        Touched::Slot(slot) => Judged::Passed(slot, packet),
+    match call_touched::kept_place(touched) {
+        Placed::NotPlaced(n) => Judged::Refused(n),
+        Placed::In(slot) => Judged::Passed(slot, packet),
     }
 }
 

@@ -20,7 +20,7 @@ use Rattle.call_model.specs.Reading.{reading}
 use Rattle.table.specs.Steps.{touchedBy}
 use Rattle.call_touched.specs.Steps.{SoundAt}
 use Rattle.call_touched.proofs.Touch.{is-touched, sound-at}
-use Rattle.call_ping_sent.specs.declared.Placed.the-variants.{NotPlaced, In}
+use Rattle.call_touched.specs.declared.Placed.the-variants.{NotPlaced, In}
 use Rattle.call_ping_sent.specs.Steps.{placedBy, placedAt, pingSentFront, placed, noteNumber, afterNote}
 use Rattle.call_ping_sent.proofs.Placing.{same-placed}
 

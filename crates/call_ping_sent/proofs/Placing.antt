@@ -6,8 +6,9 @@ use Prim.Native.Nat.{ℕ}
 use Rattle.lists.specs.Lists.{first}
 use Rattle.call_touched.specs.Steps.{isWrongKey, isOwnKey}
 use Rattle.call_touched.proofs.Touch.{leads}
-use Rattle.call_ping_sent.specs.declared.Placed.the-variants.{In}
-use Rattle.call_ping_sent.specs.Steps.{placedBy, keptPlace}
+use Rattle.call_touched.specs.declared.Placed.the-variants.{In}
+use Rattle.call_touched.specs.Steps.{keptPlace}
+use Rattle.call_ping_sent.specs.Steps.{placedBy}
 
 -- 2 to 12
 pub same-placed : (back hashed whole own kept form : Bool) (i : ℕ)

@@ -13,10 +13,9 @@ use Rattle.call_history.specs.Model as model
 use Rattle.call_model.specs.Calls.{envOf, unsoundFor}
 use Rattle.call_model.specs.Reading.{reading}
 use Rattle.table.specs.declared.Touched.{Touched}
-use Rattle.table.specs.declared.Touched.the-variants.{WrongKey, Own, NotKept, Slot}
-use Rattle.call_touched.specs.Steps.{keyTests, withBucket}
-use Rattle.call_ping_sent.specs.declared.Placed.{Placed}
-use Rattle.call_ping_sent.specs.declared.Placed.the-variants.{NotPlaced, In}
+use Rattle.call_touched.specs.Steps.{keyTests, keptPlace, withBucket}
+use Rattle.call_touched.specs.declared.Placed.{Placed}
+use Rattle.call_touched.specs.declared.Placed.the-variants.{NotPlaced, In}
 
 -- 2 to 7
 abbrev pub pingSentTests : ℕ → ℕ → Bytes → Touched → Bytes → List (Bool × ℕ)
@@ -28,12 +27,6 @@ pingSentFront s now key address hash = (unsoundFor reading s key, 1) ∷ model.p
 
 abbrev pub placedBy : ℕ → Placed → Placed
 placedBy n p = cond (eqb n 0) p (NotPlaced n)
-
-abbrev pub keptPlace : Touched → Placed
-keptPlace WrongKey = NotPlaced 12
-keptPlace Own = NotPlaced 12
-keptPlace NotKept = NotPlaced 12
-keptPlace (Slot i) = In i
 
 abbrev pub placedAt : ℕ → ℕ → Bytes → Touched → Bytes → Placed
 placedAt clock now hash t address = placedBy (first (pingSentTests clock now hash t address)) (keptPlace t)

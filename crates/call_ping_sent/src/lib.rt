@@ -12,20 +12,13 @@ ghost use Rattle.call_model.specs.Calls.{answerOn, bytesAfter};
 ghost use Rattle.call_model.specs.Reading.{reading};
 ghost use Rattle.call_touched.specs.Steps.{SoundAt};
 ghost use Rattle.call_history.specs.Model.{heldRefusals};
-ghost use Rattle.call_ping_sent.specs.Steps.{keptPlace, placedAt, placed, pingSentTests, noteNumber, afterNote};
+ghost use Rattle.call_ping_sent.specs.Steps.{placedAt, placed, pingSentTests, noteNumber, afterNote};
 use bucket::Bucket;
 use bucket_rules::Lookup;
+use call_touched::Placed;
 use call_touched::Reach;
 use node::MonotonicMillis;
 use table::Touched;
-
-// What the tests before the bucket's own find of a ping that was sent.
-pub enum Placed {
-    // The answer number, from 1 to 12.
-    NotPlaced(u8),
-    // The slot of the node's bucket.
-    In(usize),
-}
 
 // Answers 2 to 7, or 0, of a ping that was sent.
 fn ping_number(
@@ -48,17 +41,6 @@ fn ping_number(
     call_touched::key_number(touched, address)
 }
 
-fn kept_place(touched: Touched) -> Placed
-    ensures { λ r. ⌜ r ≡ keptPlace touched ⌝ }
-{
-    match touched {
-        Touched::WrongKey => Placed::NotPlaced(numbers::NOT_KEPT),
-        Touched::Own => Placed::NotPlaced(numbers::NOT_KEPT),
-        Touched::NotKept => Placed::NotPlaced(numbers::NOT_KEPT),
-        Touched::Slot(slot) => Placed::In(slot),
-    }
-}
-
 // Answers 2 to 12 of a ping that was sent, or the slot of the node's bucket.
 fn place_at(
     table: &[u8],
@@ -74,7 +56,7 @@ fn place_at(
     if n != 0 {
         return Placed::NotPlaced(n);
     }
-    kept_place(touched)
+    call_touched::kept_place(touched)
 }
 
 // Answers 1 to 12 of a ping that was sent, or the slot of the node's bucket.

@@ -1,4 +1,4 @@
-// A sweep over a table in lent bytes.
+// The sweep call on a table in lent bytes, for any bytes.
 ghost use mathlib.Core.Path.{_≡_};
 ghost use Rattle.call_history.specs.Model as model;
 ghost use Rattle.call_model.specs.Calls.{answerOn, bytesAfter};

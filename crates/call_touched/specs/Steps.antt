@@ -13,6 +13,8 @@ use Rattle.call_model.specs.Reading.{reading}
 use Rattle.table.specs.declared.Touched.{Touched}
 use Rattle.table.specs.declared.Touched.the-variants.{WrongKey, Own, NotKept, Slot}
 use Rattle.table.specs.Steps.{touchedBy}
+use Rattle.call_touched.specs.declared.Placed.{Placed}
+use Rattle.call_touched.specs.declared.Placed.the-variants.{NotPlaced, In}
 use Rattle.call_touched.specs.declared.Reach.{Reach}
 use Rattle.call_touched.specs.declared.Reach.the-variants.{Unsound, At}
 
@@ -51,6 +53,13 @@ isOwnKey (Slot i) = false
 -- 5 to 7
 abbrev pub keyTests : Touched → Bytes → List (Bool × ℕ)
 keyTests t address = (isWrongKey t, 5) ∷ (not (isAddress address), 6) ∷ (isOwnKey t, 7) ∷ []
+
+-- 12, or the slot
+abbrev pub keptPlace : Touched → Placed
+keptPlace WrongKey = NotPlaced 12
+keptPlace Own = NotPlaced 12
+keptPlace NotKept = NotPlaced 12
+keptPlace (Slot i) = In i
 
 -- ---- a bucket that is there and sound
 

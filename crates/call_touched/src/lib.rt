@@ -8,7 +8,7 @@ ghost use Rattle.lists.specs.Lists.{first};
 ghost use Rattle.table_model.specs.Layout.{countOf, offsetOf, bucketAt, headerSound};
 ghost use Rattle.bucket.specs.Steps.{contents, Shows, InBounds};
 ghost use Rattle.bucket_rules.specs.Steps.{Ready};
-ghost use Rattle.call_touched.specs.Steps.{touchedSound, Below, reached, isWrongKey, isOwnKey, keyTests, SoundAt, withBucket};
+ghost use Rattle.call_touched.specs.Steps.{touchedSound, Below, reached, isWrongKey, isOwnKey, keyTests, keptPlace, SoundAt, withBucket};
 use bucket::Bucket;
 use node::MonotonicMillis;
 use table::Touched;
@@ -82,6 +82,26 @@ pub fn key_number(touched: Touched, address: &[u8]) -> u8
         return numbers::OWN_KEY;
     }
     numbers::DONE
+}
+
+// What the tests before the bucket's own find of a call with a key.
+pub enum Placed {
+    // The answer number, from 1 to 12.
+    NotPlaced(u8),
+    // The slot of the key's bucket.
+    In(usize),
+}
+
+// Answer 12, or the slot of the key's bucket.
+pub fn kept_place(touched: Touched) -> Placed
+    ensures { λ r. ⌜ r ≡ keptPlace touched ⌝ }
+{
+    match touched {
+        Touched::WrongKey => Placed::NotPlaced(numbers::NOT_KEPT),
+        Touched::Own => Placed::NotPlaced(numbers::NOT_KEPT),
+        Touched::NotKept => Placed::NotPlaced(numbers::NOT_KEPT),
+        Touched::Slot(slot) => Placed::In(slot),
+    }
 }
 
 // The bucket in a slot, where it is sound.

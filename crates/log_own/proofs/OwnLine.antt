@@ -20,10 +20,10 @@ use Rattle.table_model.proofs.Fresh.{fresh-form}
 use Rattle.table.specs.Init.{initAnswer, initTable, freshTable}
 use Rattle.table.proofs.Fresh.{room}
 use Rattle.log_answer.specs.AnswerRows.{answerRoom, numberRow}
-use Rattle.log_own.specs.declared.Replay.{Replay}
+use Rattle.log_state.specs.declared.Replay.{Replay}
 use Rattle.log_own.specs.OwnLine.{isCount, ownNumber, ownAnswer, ownAfter}
-use Rattle.log_own.specs.Steps.{sizeOf, stateOf, Answered}
-use Rattle.log_own.proofs.Memory.{size-some, size-most, size-fits, front-stored, front-is, front-same, front-part}
+use Rattle.log_state.specs.State.{sizeOf, stateOf, Answered}
+use Rattle.log_state.proofs.Memory.{size-some, size-most, size-fits, front-stored, front-is, front-same, front-part}
 
 pub length-fresh : (key : Bytes) (count : ℕ) → 1 ≤ count → count ≤ 256 → length (freshTable key count) ≡ offsetOf count
 length-fresh key count one most =

@@ -1,2 +1,1 @@
 pub mod OwnLine
-pub mod Steps

@@ -1,20 +1,13 @@
 -- The first line of a log, `own` (document 01, "Log and printout"): its answer, and the table that it makes.
 use Prim.Native.Nat.{ℕ}
-use mathlib.Core.Bool.{Bool, true, false, cond, not, _&&_}
+use mathlib.Core.Bool.{Bool, true, cond, not, _&&_}
 use mathlib.Core.List.{[], _∷_}
 use lib.Dec.{eqb, leb}
 use lib.ListN.{length}
 use Rattle.octets.specs.Octets.{Bytes}
 use Rattle.lists.specs.Lists.{first}
 use Rattle.table.specs.Init.{freshTable}
-
--- `owned`: a well-formed `own` has come. `table` is empty until one is accepted.
-pub record State : Type 0 where
-  pub owned : Bool
-  pub table : Bytes
-
-abbrev pub startState : State
-startState = record { owned = false; table = [] }
+use Rattle.log_state.specs.State.{State}
 
 -- ---- `own`
 

@@ -1,6 +1,6 @@
 // The first line of a log, `own`: a fresh table in the first bytes of a lent memory, and the answer written into lent bytes.
 ghost use mathlib.Core.Path.{_≡_};
-ghost use mathlib.Core.Bool.{false, cond};
+ghost use mathlib.Core.Bool.{cond};
 ghost use Prim.Native.Nat.{_+_, _≤_};
 ghost use lib.Dec.{eqb};
 ghost use lib.ListN.{length};
@@ -9,51 +9,13 @@ ghost use Rattle.table.specs.Init.{freshTable};
 ghost use Rattle.log_line.specs.Fields.{said};
 ghost use Rattle.log_answer.specs.AnswerRows.{answerRoom, numberRow};
 ghost use Rattle.log_own.specs.OwnLine.{ownNumber, ownAnswer, ownAfter};
-ghost use Rattle.log_own.specs.Steps.{sizeOf, stateOf, Answered};
+ghost use Rattle.log_state.specs.State.{stateOf, Answered};
 use bucket::Bucket;
 use log_answer::put_number;
 use log_line::decode_field;
+use log_state::Replay;
+use log_state::Stepped;
 use packet_span::Span;
-
-// The bytes that a table of 16 buckets takes, the most of a replayed table.
-pub const MEMORY: usize = 46304;
-
-// `owned`: a well-formed `own` has come. `count`: the buckets of the table, 0 where no `own` was accepted.
-pub struct Replay {
-    pub owned: bool,
-    pub count: usize,
-}
-
-// A line was answered with `len` bytes.
-pub struct Stepped {
-    pub replay: Replay,
-    pub len: usize,
-}
-
-impl Replay {
-    // Before the first line.
-    pub fn new() -> Self
-        ensures { λ r. ⌜ r ≡ record { owned = false; count = 0 } ⌝ }
-    {
-        Replay {
-            owned: false,
-            count: 0,
-        }
-    }
-
-    // The bytes of the table.
-    pub fn size(self) -> usize
-        requires { ⌜ self .count ≤ 16 ⌝ }
-        ensures size { λ r. ⌜ r ≡ sizeOf (self .count) ⌝ }
-        ensures most { λ r. ⌜ r ≤ 46304 ⌝ }
-    {
-        let count = self.count;
-        if count == 0 {
-            return 0;
-        }
-        table::HEADER_SIZE + count * Bucket::SIZE
-    }
-}
 
 // The first `own`: a fresh table, or the answer number and no byte is written.
 fn make(memory: &mut [u8], key: &[u8], buckets: u64) -> u8

@@ -10,10 +10,10 @@ use Rattle.log_lines.specs.Lines.{whole}
 use Rattle.log_line.specs.declared.Line.{Line}
 use Rattle.log_line.specs.Forms.{lineOf}
 use Rattle.log_answer.specs.AnswerRows.{answerRoom}
-use Rattle.log_own.specs.declared.Replay.{Replay}
-use Rattle.log_own.specs.declared.Stepped.{Stepped}
-use Rattle.log_own.specs.Steps.{sizeOf, stateOf, Answered}
-use Rattle.log_own.proofs.Memory.{size-fits, front-stored, front-is, front-same, front-part}
+use Rattle.log_state.specs.declared.Replay.{Replay}
+use Rattle.log_state.specs.declared.Stepped.{Stepped}
+use Rattle.log_state.specs.State.{sizeOf, stateOf, Answered}
+use Rattle.log_state.proofs.Memory.{size-fits, front-stored, front-is, front-same, front-part}
 use Rattle.log_replay.specs.Replay.{withTable, lineAnswer, lineAfter, answer, after}
 use Rattle.log_replay.specs.Steps.{AnsweredLine}
 

@@ -14,9 +14,9 @@ use Rattle.table_model.specs.Sound.{tableSound}
 use Rattle.printout.specs.Printout.{printout}
 use Rattle.printout.specs.Steps.{room}
 use Rattle.printout.proofs.Sizes.{printout-fits}
-use Rattle.log_own.specs.declared.Replay.{Replay}
-use Rattle.log_own.specs.Steps.{sizeOf, stateOf}
-use Rattle.log_own.proofs.Memory.{size-some, size-fits, front-part}
+use Rattle.log_state.specs.declared.Replay.{Replay}
+use Rattle.log_state.specs.State.{sizeOf, stateOf}
+use Rattle.log_state.proofs.Memory.{size-some, size-fits, front-part}
 use Rattle.log_replay.specs.Replay.{Reached, ending}
 use Rattle.log_replay.proofs.Kept.{reached-good, good-table}
 

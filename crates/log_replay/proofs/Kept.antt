@@ -37,10 +37,10 @@ use Rattle.call_model.specs.Reading.{reading}
 use Rattle.call_model.specs.OverBytes.{encode}
 use Rattle.call_model.proofs.Form.{table-form}
 use Rattle.call_model.proofs.Step.{step-follows}
-use Rattle.log_own.specs.declared.Replay.{Replay}
-use Rattle.log_own.specs.OwnLine.{State, ownNumber, ownAnswer, ownAfter}
-use Rattle.log_own.specs.Steps.{sizeOf, stateOf}
-use Rattle.log_own.proofs.Memory.{size-some, size-fits}
+use Rattle.log_state.specs.declared.Replay.{Replay}
+use Rattle.log_state.specs.State.{State, sizeOf, stateOf}
+use Rattle.log_own.specs.OwnLine.{ownNumber, ownAnswer, ownAfter}
+use Rattle.log_state.proofs.Memory.{size-some, size-fits}
 use Rattle.log_own.proofs.OwnLine.{accepted-count}
 use Rattle.log_replay.specs.Replay.{lineAfter, after, Reached, start, line as reached-line}
 use Rattle.log_replay.proofs.Fields.{isRead, read-short}

@@ -10,10 +10,9 @@ use Rattle.log_lines.specs.Steps.{fresh}
 use Rattle.log_lines.specs.Feeding.{Feeds, join}
 use Rattle.log_lines.proofs.Chunks.{feeds-lines}
 use Rattle.log_answer.specs.AnswerRows.{answerRoom, numberRow}
-use Rattle.log_own.specs.declared.Replay.{Replay}
-use Rattle.log_own.specs.OwnLine.{startState}
-use Rattle.log_own.specs.Steps.{sizeOf, stateOf}
-use Rattle.log_own.proofs.Memory.{front-is}
+use Rattle.log_state.specs.declared.Replay.{Replay}
+use Rattle.log_state.specs.State.{startState, sizeOf, stateOf}
+use Rattle.log_state.proofs.Memory.{front-is}
 use Rattle.log_replay.specs.Replay.{answer, after, ending, outputFrom, replayed}
 use Rattle.log_replay.specs.Steps.{startReplay, AnsweredLine, Runs, done, next}
 use Rattle.log_replay.specs.Claims.{ReplayOfLog}

@@ -12,9 +12,8 @@ use Rattle.log_line.specs.declared.Line.{Line}
 use Rattle.log_line.specs.declared.Line.the-variants.{Own, Rx, Sent, Sweep, Unreadable}
 use Rattle.log_line.specs.Forms.{lineOf}
 use Rattle.log_answer.specs.AnswerRows.{numberRow}
-use Rattle.log_own.specs.declared.Replay.{Replay}
-use Rattle.log_own.specs.OwnLine.{State}
-use Rattle.log_own.specs.Steps.{stateOf}
+use Rattle.log_state.specs.declared.Replay.{Replay}
+use Rattle.log_state.specs.State.{State, stateOf}
 use Rattle.log_replay.specs.Replay.{answer, after, ending, replayed}
 use Rattle.log_replay.specs.Steps.{startReplay, Runs}
 

@@ -14,7 +14,8 @@ use Rattle.call_model.specs.Reading.{reading}
 use Rattle.call_datagram.specs.Received.{received}
 use Rattle.log_answer.specs.AnswerRows.{numberRow}
 use Rattle.log_answer.specs.AnswerLine.{receivedRow}
-use Rattle.log_own.specs.OwnLine.{State, startState, ownAnswer, ownAfter}
+use Rattle.log_state.specs.State.{State, startState}
+use Rattle.log_own.specs.OwnLine.{ownAnswer, ownAfter}
 use Rattle.printout.specs.Printout.{printout}
 
 -- ---- a line, by what it says

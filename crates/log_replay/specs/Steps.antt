@@ -6,9 +6,9 @@ use lib.ListN.{length, take}
 use Rattle.octets.specs.Octets.{Bytes}
 use Rattle.log_lines.specs.Lines.{Held}
 use Rattle.log_answer.specs.AnswerRows.{answerRoom}
-use Rattle.log_own.specs.declared.Replay.{Replay}
-use Rattle.log_own.specs.declared.Stepped.{Stepped}
-use Rattle.log_own.specs.Steps.{stateOf, Answered}
+use Rattle.log_state.specs.declared.Replay.{Replay}
+use Rattle.log_state.specs.declared.Stepped.{Stepped}
+use Rattle.log_state.specs.State.{stateOf, Answered}
 use Rattle.log_replay.specs.Replay.{answer, after}
 
 -- before the first line

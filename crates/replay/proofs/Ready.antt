@@ -10,9 +10,9 @@ use Rattle.log_lines.specs.Lines.{Held}
 use Rattle.log_lines.specs.declared.Begun.{Begun}
 use Rattle.log_lines.specs.Steps.{fresh}
 use Rattle.log_answer.specs.AnswerRows.{answerRoom}
-use Rattle.log_own.specs.declared.Replay.{Replay}
-use Rattle.log_own.specs.declared.Stepped.{Stepped}
-use Rattle.log_own.specs.Steps.{stateOf}
+use Rattle.log_state.specs.declared.Replay.{Replay}
+use Rattle.log_state.specs.declared.Stepped.{Stepped}
+use Rattle.log_state.specs.State.{stateOf}
 use Rattle.log_replay.specs.Replay.{after, start, line}
 use Rattle.log_replay.specs.Steps.{startReplay, AnsweredLine}
 use Rattle.log_replay.proofs.Replayed.{start-state}

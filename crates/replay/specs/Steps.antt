@@ -3,7 +3,7 @@ use Prim.Native.Nat.{ℕ, _+_, _-_, _≤_}
 use mathlib.Core.Bool.{cond}
 use lib.ListN.{length}
 use Rattle.octets.specs.Octets.{Bytes}
-use Rattle.log_own.specs.Steps.{stateOf}
+use Rattle.log_state.specs.State.{stateOf}
 use Rattle.log_replay.specs.Replay.{Reached}
 use Rattle.replay.specs.declared.Progress.{Progress}
 

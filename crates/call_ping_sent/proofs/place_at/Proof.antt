@@ -1,7 +1,7 @@
 -- `call_ping_sent::place_at` meets its contract. Assumes nothing.
 use borrow.Author.Needs.{needs}
 use Rattle.lists.proofs.First.{not-passed, passed-on}
-use Rattle.call_ping_sent.specs.declared.Placed.the-variants.{NotPlaced}
+use Rattle.call_touched.specs.declared.Placed.the-variants.{NotPlaced}
 use Rattle.call_ping_sent.proofs.place_at.Statement.{statement}
 use Rattle.call_ping_sent.proofs.place_at.Tie as tie
 

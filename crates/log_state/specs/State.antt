@@ -1,15 +1,24 @@
--- One line of a log is answered: the table is the first bytes of a memory that has room for any, and the answer is written into lent bytes.
+-- The state of a replay, and that one line of a log is answered: the table is the first bytes of a memory that has room for any, and the answer is
+-- written into lent bytes.
 use Prim.Native.Nat.{ℕ, _≤_}
 use mathlib.Core.Path.{_≡_}
-use mathlib.Core.Bool.{cond}
+use mathlib.Core.Bool.{Bool, false, cond}
+use mathlib.Core.List.{[]}
 use lib.Dec.{eqb}
 use lib.ListN.{length, take}
 use Rattle.octets.specs.Octets.{Bytes, store}
 use Rattle.table_model.specs.Layout.{offsetOf}
 use Rattle.log_answer.specs.AnswerRows.{answerRoom}
-use Rattle.log_own.specs.OwnLine.{State}
-use Rattle.log_own.specs.declared.Replay.{Replay}
-use Rattle.log_own.specs.declared.Stepped.{Stepped}
+use Rattle.log_state.specs.declared.Replay.{Replay}
+use Rattle.log_state.specs.declared.Stepped.{Stepped}
+
+-- `owned`: a well-formed `own` has come. `table` is empty until one is accepted.
+pub record State : Type 0 where
+  pub owned : Bool
+  pub table : Bytes
+
+abbrev pub startState : State
+startState = record { owned = false; table = [] }
 
 -- the bytes that a table of `count` buckets takes; none where no table was accepted
 unfoldable pub sizeOf : ℕ → ℕ

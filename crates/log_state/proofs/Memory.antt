@@ -10,8 +10,8 @@ use lib.Seq.{length-take-le}
 use Rattle.octets.specs.Octets.{Bytes, part, store}
 use Rattle.octets.proofs.Laws.{store-eq, part-store}
 use Rattle.lists.proofs.Laws.{byTest}
-use Rattle.log_own.specs.declared.Replay.{Replay}
-use Rattle.log_own.specs.Steps.{sizeOf}
+use Rattle.log_state.specs.declared.Replay.{Replay}
+use Rattle.log_state.specs.State.{sizeOf}
 
 -- ---- sizes
 

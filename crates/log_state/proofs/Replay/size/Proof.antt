@@ -1,9 +1,9 @@
--- `log_own::Replay::size` meets its contract. Assumes nothing.
-use Rattle.log_own.proofs.Memory.{size-none, size-some}
+-- `log_state::Replay::size` meets its contract. Assumes nothing.
+use Rattle.log_state.proofs.Memory.{size-none, size-some}
 use borrow.Author.Needs.{needs}
 use native.Mathlib.Omega.{arith}
-use Rattle.log_own.proofs.Replay.size.Statement.{statement}
-use Rattle.log_own.proofs.Replay.size.Tie as tie
+use Rattle.log_state.proofs.Replay.size.Statement.{statement}
+use Rattle.log_state.proofs.Replay.size.Tie as tie
 
 returns : tie.Need-returns
 returns c = (size-none (c .before .args .self .count) (c .if1 .taken), omega arith)

@@ -1,8 +1,8 @@
--- `call_ping_sent::kept_place` meets its contract. Assumes nothing.
+-- `call_touched::kept_place` meets its contract. Assumes nothing.
 use mathlib.Core.Path.{refl}
 use borrow.Author.Needs.{needs}
-use Rattle.call_ping_sent.proofs.kept_place.Statement.{statement}
-use Rattle.call_ping_sent.proofs.kept_place.Tie as tie
+use Rattle.call_touched.proofs.kept_place.Statement.{statement}
+use Rattle.call_touched.proofs.kept_place.Tie as tie
 
 returns-4 : tie.Need-returns-4
 returns-4 c = rw (c .before .touched .given .1) refl
