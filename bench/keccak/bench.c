@@ -1,4 +1,4 @@
-// Compares three Keccak-256 on the same inputs, after a check that they agree on every length from 0 to 1,299.
+// Compares four Keccak-256 on the same inputs, after a check that they agree on every length from 0 to 1,299.
 // They take turns in short batches, so that a busy machine slows them alike, and the best batch of each counts.
 #include <stddef.h>
 #include <stdint.h>
@@ -7,11 +7,11 @@
 #include <time.h>
 
 typedef void hash(const uint8_t *message, size_t n, uint8_t *out);
-hash keccak256_into, c_keccak256, rustcrypto_keccak256;
+hash keccak256_into, c_keccak256, rustcrypto_keccak256, c_keccak256_bytewise;
 
-enum { HASHES = 3, TURNS = 3000 };
-static hash *const hashes[HASHES] = {keccak256_into, c_keccak256, rustcrypto_keccak256};
-static const char *const names[HASHES] = {"Rattle, proved", "C, unrolled", "RustCrypto sha3"};
+enum { HASHES = 4, TURNS = 3000 };
+static hash *const hashes[HASHES] = {keccak256_into, c_keccak256, rustcrypto_keccak256, c_keccak256_bytewise};
+static const char *const names[HASHES] = {"Rattle, proved", "C, unrolled", "RustCrypto sha3", "C, byte by byte"};
 static uint8_t message[2048];
 
 static double now(void) {
@@ -36,7 +36,8 @@ static void measure(size_t n, int batch) {
         }
     printf("%zu bytes\n", n);
     for (int k = 0; k < HASHES; k++)
-        printf("  %-16s %8.1f ns  %7.1f MB/s  %.2f x C  %.2f x RustCrypto\n", names[k], best[k], n * 1e3 / best[k], best[k] / best[1], best[k] / best[2]);
+        printf("  %-16s %8.1f ns  %7.1f MB/s  %.2f x C  %.2f x RustCrypto  %.2f x C byte by byte\n", names[k], best[k], n * 1e3 / best[k],
+               best[k] / best[1], best[k] / best[2], best[k] / best[3]);
 }
 
 int main(void) {

@@ -1,4 +1,4 @@
-// Plain C Keccak-256 for the benchmark: each round written out over 25 locals, and one lane loaded at a time.
+// Plain C Keccak-256 for the benchmark: each round written out over 25 locals; a block is taken as its lanes, or byte by byte (C-12).
 #include <stddef.h>
 #include <stdint.h>
 #include <string.h>
@@ -87,22 +87,39 @@ static void permute(uint64_t *s) {
     s[20] = a20; s[21] = a21; s[22] = a22; s[23] = a23; s[24] = a24;
 }
 
-static void absorb(uint64_t *s, const uint8_t *block) {
+static void add_lanes(uint64_t *s, const uint8_t *block) {
     for (int i = 0; i < 17; i++) {
         uint64_t lane;
         memcpy(&lane, block + 8 * i, 8);
         s[i] ^= lane;
     }
-    permute(s);
 }
 
-void c_keccak256(const uint8_t *message, size_t n, uint8_t *out) {
+static void add_bytes(uint64_t *s, const uint8_t *block) {
+    for (int i = 0; i < 136; i++) s[i / 8] ^= (uint64_t)block[i] << 8 * (i % 8);
+}
+
+typedef void add(uint64_t *s, const uint8_t *block);
+
+static inline void hash(add *add_block, const uint8_t *message, size_t n, uint8_t *out) {
     uint64_t s[25] = {0};
-    for (; n >= 136; message += 136, n -= 136) absorb(s, message);
+    for (; n >= 136; message += 136, n -= 136) {
+        add_block(s, message);
+        permute(s);
+    }
     uint8_t block[136] = {0};
     memcpy(block, message, n);
     block[n] = 0x01;
     block[135] |= 0x80;
-    absorb(s, block);
+    add_block(s, block);
+    permute(s);
     memcpy(out, s, 32);
+}
+
+void c_keccak256(const uint8_t *message, size_t n, uint8_t *out) {
+    hash(add_lanes, message, n, out);
+}
+
+void c_keccak256_bytewise(const uint8_t *message, size_t n, uint8_t *out) {
+    hash(add_bytes, message, n, out);
 }

@@ -1,7 +1,7 @@
 """Keccak-256 written from the Keccak team's publication, apart from the Rattle code and its proofs.
 
 It makes the round constants and the rotation offsets by the published rules. Run as a program it checks itself: with SHA3's first padding
-byte against hashlib's SHA3-256, with Keccak's own against published hashes."""
+byte against hashlib's SHA3-256, with Keccak's own against published hashes, and both with blocks taken as lanes and byte by byte."""
 import hashlib
 import random
 
@@ -41,20 +41,35 @@ def permuted(a):
     return a
 
 
-def sponge(message, first):
-    """The first 32 bytes of the sponge with rate 136; `first` is the first padding byte."""
+def add_lanes(a, block):
+    """A block into the state as its 17 lanes."""
+    for i in range(RATE // 8):
+        a[i % 5][i // 5] ^= int.from_bytes(block[8 * i : 8 * i + 8], "little")
+
+
+def add_bytes(a, block):
+    """A block into the state byte by byte: byte i into lane i // 8, there at byte i % 8, lowest first."""
+    for i in range(RATE):
+        a[i // 8 % 5][i // 8 // 5] ^= block[i] << 8 * (i % 8)
+
+
+def sponge(message, first, add=add_lanes):
+    """The first 32 bytes of the sponge with rate 136; `first` is the first padding byte, `add` takes a block into the state."""
     padded = bytearray(message) + bytes([first]) + bytes(-(len(message) + 1) % RATE)
     padded[-1] |= 0x80
     a = [[0] * 5 for _ in range(5)]
     for k in range(0, len(padded), RATE):
-        for i in range(RATE // 8):
-            a[i % 5][i // 5] ^= int.from_bytes(padded[k + 8 * i : k + 8 * i + 8], "little")
+        add(a, padded[k : k + RATE])
         a = permuted(a)
     return b"".join(a[i][0].to_bytes(8, "little") for i in range(4))
 
 
 def keccak256(message):
     return sponge(message, 0x01)
+
+
+def keccak256_bytewise(message):
+    return sponge(message, 0x01, add_bytes)
 
 
 # The base point of secp256k1 is the public key of the private key 1, whose Ethereum address is the hash's last 20 bytes.
@@ -77,10 +92,12 @@ def check():
     for n in list(range(300)) + [1000, 1280]:
         message = source.randbytes(n)
         assert sponge(message, 0x06) == hashlib.sha3_256(message).digest(), n
+        assert sponge(message, 0x06, add_bytes) == hashlib.sha3_256(message).digest(), n
+        assert keccak256_bytewise(message) == keccak256(message), n
     for message, end in PUBLISHED:
         assert keccak256(message).hex().endswith(end), message
 
 
 if __name__ == "__main__":
     check()
-    print("SHA3-256 agrees with hashlib on 302 messages, Keccak-256 with %d published hashes" % len(PUBLISHED))
+    print("SHA3-256 agrees with hashlib on 302 messages, by lanes and by bytes, Keccak-256 with %d published hashes" % len(PUBLISHED))

@@ -28,7 +28,8 @@ fn lane_at(b: &[u8], at: usize) -> u64
         + b7 * 0x100_0000_0000_0000
 }
 
-// The state with a block added into its first 17 lanes.
+// The state with a block added into its first 17 lanes. C-12: a block is taken as its 17 lanes of eight bytes; its bytes one by one leave the same state
+// (`OneByOne`, keccak_bytewise).
 pub fn xor_block(a: [u64; 25], block: &[u8]) -> [u64; 25]
     requires { ⌜ length (now block) ≡ rate ⌝ }
     ensures { λ r. ⌜ r ≡ xorBlock a (now (block .entry)) ⌝ }

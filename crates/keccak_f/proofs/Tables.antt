@@ -13,7 +13,7 @@ unfolding roundConstant constantBits rc power
 round-constants = refl
 
 -- what stands at place k of `each f from n`
-each-at : (f : ℕ → ℕ) (n from k : ℕ) → k < n → getD (each f from n) k 0 ≡ f (from + k)
+pub each-at : (f : ℕ → ℕ) (n from k : ℕ) → k < n → getD (each f from n) k 0 ≡ f (from + k)
 each-at f zero from k h = absurd (not-suc-le-zero h)
 each-at f (suc n) from zero h = ap f (sym (add-zero from))
 each-at f (suc n) from (suc k) h = each-at f n (suc from) k (le-of-suc-le-suc h) ∙ ap f (suc-add from k ∙ sym (add-suc from k))
