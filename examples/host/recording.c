@@ -116,8 +116,8 @@ static void put_table(FILE *file, const uint8_t table[TABLE_SIZE]) {
     fprintf(file, "table\t%d\t%" PRIu64 "\t%d\t%d\n", BUCKETS, number(table + 32, 8), entries, replacements);
     for (int i = 0; i < BUCKETS; i++) {
         const uint8_t *bucket = table + HEADER + i * BUCKET;
-        for (int j = 0; j < bucket[0]; j++) put_entry(file, "seat", 256 - BUCKETS + i, j + 1, bucket + ENTRIES + j * ENTRY);
-        for (int j = 0; j < bucket[1]; j++) put_entry(file, "wait", 256 - BUCKETS + i, j + 1, bucket + REPLACEMENTS + j * ENTRY);
+        for (int j = 0; j < bucket[0]; j++) put_entry(file, "seat", 257 - BUCKETS + i, j + 1, bucket + ENTRIES + j * ENTRY);
+        for (int j = 0; j < bucket[1]; j++) put_entry(file, "wait", 257 - BUCKETS + i, j + 1, bucket + REPLACEMENTS + j * ENTRY);
     }
 }
 

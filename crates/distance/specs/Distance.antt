@@ -19,6 +19,11 @@ inBucket i d = leb (2 ^ i) d && ltb d (2 ^ (i + 1))
 unfoldable pub bitLength : ℕ → ℕ
 bitLength d = 256 - leadingZeros 256 d
 
+-- C-14: "the logarithmic distance is 0 for equal hashes and otherwise bucket number plus one, 1 to 256"; source document 000 calls it the
+-- "length of differing suffix in bits"
+abbrev pub logDistance : Bytes → Bytes → ℕ
+logDistance a b = bitLength (distance a b)
+
 -- the number of the bucket that a distance falls in, where it isn't 0
 abbrev pub numberOfDistance : ℕ → ℕ
 numberOfDistance d = bitLength d - 1

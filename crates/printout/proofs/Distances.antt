@@ -1,15 +1,16 @@
--- The number of an entry's bucket is the logarithm of its distance. Assumes nothing.
-use mathlib.Core.Path.{_≡_}
+-- What is printed with an entry is its logarithmic distance. Assumes nothing.
+use mathlib.Core.Path.{_≡_, sym, _∙_}
 use mathlib.Core.List.{List, [], _∷_}
-use Prim.Native.Nat.{ℕ, suc, _+_, _-_, _^_, _<_}
+use Prim.Native.Nat.{ℕ, suc, _+_, _-_, _<_}
 use native.Mathlib.Omega.{arith}
-use borrow.Author.Tests.{leb-true, ltb-true}
-use lib.Dec.{leb, ltb}
+use borrow.Author.Tests.{eqb-true}
 use lib.ListN.{length, getD}
-use Rattle.octets.specs.Octets.{Bytes}
-use Rattle.lists.proofs.Laws.{and-left, and-right, All-imp}
+use Rattle.octets.specs.Octets.{Bytes, IsBytes}
+use Rattle.octets.proofs.Laws.{bytes-part}
+use Rattle.lists.proofs.Laws.{All-imp}
 use Rattle.keccak.specs.Sponge.{keccak256}
-use Rattle.distance.specs.Distance.{distance, inBucket, home}
+use Rattle.distance.specs.Distance.{logDistance, home}
+use Rattle.distance.proofs.Buckets.{home-bits}
 use Rattle.entry.specs.declared.Entry.{Entry}
 use Rattle.bucket_model.specs.Contents.{Contents, noContents}
 use Rattle.bucket_model.specs.Facts.{Every, EntrySound}
@@ -17,35 +18,32 @@ use Rattle.table_model.specs.Layout.{ownOf, clockOf, countOf, numberAt, buckets
 use Rattle.table_model.specs.Facts.{SoundBucket}
 use Rattle.table_model.proofs.Sound.{sound-is-table}
 use Rattle.table_model.proofs.Table.{count-read}
-use Rattle.printout.specs.Claims.{Logarithm, Numbered, PrintedDistance}
+use Rattle.printout.specs.Claims.{AtDistance, Rising, PrintedDistance}
 
-numbered : (P : ℕ → Contents → Type 0) (number : ℕ) (bs : List Contents) → ((j : ℕ) → j < length bs → P (number + j) (getD bs j noContents))
-    → Numbered P number bs
-numbered P number [] each = tt
-numbered P number (b ∷ bs) each =
-    let e : number + 0 ≡ number = omega arith in (
+rising : (P : ℕ → Contents → Type 0) (n : ℕ) (bs : List Contents) → ((j : ℕ) → j < length bs → P (n + j) (getD bs j noContents))
+    → Rising P n bs
+rising P n [] each = tt
+rising P n (b ∷ bs) each =
+    let e : n + 0 ≡ n = omega arith in (
       rw e at (each 0 (omega arith)),
-      numbered P (suc number) bs
-          (λ j k. let f : number + suc j ≡ suc number + j = omega arith in rw f at (each (suc j) (omega arith))),
+      rising P (suc n) bs
+          (λ j k. let f : n + suc j ≡ suc n + j = omega arith in rw f at (each (suc j) (omega arith))),
     )
 
-entry-logarithm : (own : Bytes) (n clock : ℕ) (e : Entry) → EntrySound (home own n) clock e → Logarithm own n e
-unfolding home inBucket
-entry-logarithm own n clock e h =
-    let d = distance own (keccak256 (e .key)) in
-    record {
-      least = leb-true (2 ^ n) d (and-left (leb (2 ^ n) d) (ltb d (2 ^ (n + 1))) (h .at-home));
-      less = ltb-true d (2 ^ (n + 1)) (and-right (leb (2 ^ n) d) (ltb d (2 ^ (n + 1))) (h .at-home));
-    }
+entry-distance : (own : Bytes) (n clock : ℕ) (e : Entry) → length own ≡ 32 → IsBytes own → EntrySound (home own n) clock e → AtDistance own (n + 1) e
+entry-distance own n clock e l b h = eqb-true (logDistance own (keccak256 (e .key))) (n + 1) (sym (home-bits own (e .key) n l b) ∙ h .at-home)
 
 pub printed-distance : PrintedDistance
 printed-distance s bs h =
-    numbered (λ number b. Every (Logarithm (ownOf s) number) b) (256 - countOf s) (bucketsOf s)
+    rising (λ n b. Every (AtDistance (ownOf s) n) b) (257 - countOf s) (bucketsOf s)
     (λ j k.
+    let t = sound-is-table s bs h in
     let n : ℕ = numberAt (countOf s) j in
     let b : Contents = getD (bucketsOf s) j noContents in
-    let held : SoundBucket (home (ownOf s) n) (clockOf s) b = simp (count-read s) at (sound-is-table s bs h .each j k) in
-    let each = entry-logarithm (ownOf s) n (clockOf s) in (
-      All-imp (EntrySound (home (ownOf s) n) (clockOf s)) (Logarithm (ownOf s) n) each (b .entries) (held .rules .entries-sound),
-      All-imp (EntrySound (home (ownOf s) n) (clockOf s)) (Logarithm (ownOf s) n) each (b .replacements) (held .rules .replacements-sound),
+    let held : SoundBucket (home (ownOf s) n) (clockOf s) b = simp (count-read s) at (t .each j k) in
+    let e : n + 1 ≡ 257 - countOf s + j = omega (arith, count-read s, t .most) in
+    let each : (x : Entry) → EntrySound (home (ownOf s) n) (clockOf s) x → AtDistance (ownOf s) (257 - countOf s + j) x =
+    λ x y. entry-distance (ownOf s) n (clockOf s) x (t .own-size) (bytes-part s 0 32 bs) y ∙ e in (
+      All-imp (EntrySound (home (ownOf s) n) (clockOf s)) (AtDistance (ownOf s) (257 - countOf s + j)) each (b .entries) (held .rules .entries-sound),
+      All-imp (EntrySound (home (ownOf s) n) (clockOf s)) (AtDistance (ownOf s) (257 - countOf s + j)) each (b .replacements) (held .rules .replacements-sound),
     ))

@@ -18,7 +18,7 @@ use Rattle.printout.specs.Claims.{exampleBuckets, firstRow, secondRow, E
 abbrev pub printed : ℕ → List Contents → Bytes
 printed clock buckets =
     row tableWord (decimal (length buckets) ∷ decimal clock ∷ decimal (entryTotal buckets) ∷ decimal (replacementTotal buckets) ∷ [])
-    ++ bucketsRows (256 - length buckets) buckets
+    ++ bucketsRows (257 - length buckets) buckets
 
 pub printout-of : (own : Bytes) (clock : ℕ) (buckets : List Contents) → SoundTable own clock buckets
     → printout (encodeTable own clock buckets) ≡ printed clock buckets

@@ -52,19 +52,19 @@ module _ (d : Bytes) (at : ℕ) (x : Bytes) where
 
 -- ---- the rows of entries in bytes
 
-module _ (word : Bytes) (number : ℕ) (s : Bytes) (from n : ℕ) where
+module _ (word : Bytes) (distance : ℕ) (s : Bytes) (from n : ℕ) where
   -- the rows of the entries from index i on
   abbrev pub rowsBehind : ℕ → Bytes
-  rowsBehind i = entryRows word number (i + 1) (behind s from n i)
+  rowsBehind i = entryRows word distance (i + 1) (behind s from n i)
 
-  pub all-rows : rowsBehind 0 ≡ entryRows word number 1 (entriesAt s from n)
-  all-rows = ap (λ (es : List Entry). entryRows word number 1 es) (behind-all s from n)
+  pub all-rows : rowsBehind 0 ≡ entryRows word distance 1 (entriesAt s from n)
+  all-rows = ap (λ (es : List Entry). entryRows word distance 1 es) (behind-all s from n)
 
   pub no-rows : (i : ℕ) → i ≤ n → n ≤ i → rowsBehind i ≡ []
   unfolding entryRows
   no-rows i h k =
       let e : i ≡ n = omega arith in
-      ap (λ (j : ℕ). entryRows word number (i + 1) (behind s from n j)) e ∙ ap (λ (es : List Entry). entryRows word number (i + 1) es) (behind-none s from n)
+      ap (λ (j : ℕ). entryRows word distance (i + 1) (behind s from n j)) e ∙ ap (λ (es : List Entry). entryRows word distance (i + 1) es) (behind-none s from n)
 
   module _ (i : ℕ) (h : i < n) where
     next-entry : behind s from n i ≡ decodeEntry (part s (from + i * 143) 143) ∷ behind s from n (i + 1)
@@ -72,18 +72,18 @@ module _ (word : Bytes) (number : ℕ) (s : Bytes) (from n : ℕ) where
         let e : i + 1 - 1 ≡ i = omega arith in
         rw e at (behind-turn s from n (i + 1) (omega arith) (omega arith))
 
-    next-row : {e : Entry} → e ≡ decodeEntry (part s (from + i * 143) 143) → rowsBehind i ≡ entryRow word number (i + 1) e ++ rowsBehind (i + 1)
+    next-row : {e : Entry} → e ≡ decodeEntry (part s (from + i * 143) 143) → rowsBehind i ≡ entryRow word distance (i + 1) e ++ rowsBehind (i + 1)
     unfolding entryRows
     next-row {e} is =
-        ap (λ (es : List Entry). entryRows word number (i + 1) es) next-entry
-        ∙ ap (λ (x : Entry). entryRow word number (i + 1) x ++ entryRows word number (suc (i + 1)) (behind s from n (i + 1))) (sym is)
-        ∙ ap (λ (k : ℕ). entryRow word number (i + 1) e ++ entryRows word number k (behind s from n (i + 1))) (sym (add-one (i + 1)))
+        ap (λ (es : List Entry). entryRows word distance (i + 1) es) next-entry
+        ∙ ap (λ (x : Entry). entryRow word distance (i + 1) x ++ entryRows word distance (suc (i + 1)) (behind s from n (i + 1))) (sym is)
+        ∙ ap (λ (k : ℕ). entryRow word distance (i + 1) e ++ entryRows word distance k (behind s from n (i + 1))) (sym (add-one (i + 1)))
 
     -- the next row is the next to be written
     pub due-row : {d₀ : Bytes} {at : ℕ} {all : List Bytes} {d : Bytes} {next : ℕ} {e : Entry}
         → e ≡ decodeEntry (part s (from + i * 143) 143) → Progress d₀ at all (rowsBehind i ∷ []) d next
-        → Progress d₀ at all (entryRow word number (i + 1) e ∷ rowsBehind (i + 1) ∷ []) d next
-    due-row {e = e} is p = parted (entryRow word number (i + 1) e) (rowsBehind (i + 1)) (next-row is) p
+        → Progress d₀ at all (entryRow word distance (i + 1) e ∷ rowsBehind (i + 1) ∷ []) d next
+    due-row {e = e} is p = parted (entryRow word distance (i + 1) e) (rowsBehind (i + 1)) (next-row is) p
 
     module _ (P : Entry → Type 0) (all : All P (behind s from n i)) where
       here-and-behind : P (decodeEntry (part s (from + i * 143) 143)) × All P (behind s from n (i + 1))
@@ -98,32 +98,32 @@ module _ (word : Bytes) (number : ℕ) (s : Bytes) (from n : ℕ) where
 -- ---- the rows of buckets
 
 module _ (s : Bytes) where
-  abbrev pub firstNumber : ℕ
-  firstNumber = 256 - countOf s
+  abbrev pub firstDistance : ℕ
+  firstDistance = 257 - countOf s
 
   -- the rows of the buckets from a slot on
   abbrev pub rowsFrom : ℕ → Bytes
-  rowsFrom slot = bucketsRows (firstNumber + slot) (drop slot (bucketsOf s))
+  rowsFrom slot = bucketsRows (firstDistance + slot) (drop slot (bucketsOf s))
 
-  pub all-buckets : rowsFrom 0 ≡ bucketsRows firstNumber (bucketsOf s)
-  all-buckets = let e : firstNumber + 0 ≡ firstNumber = omega arith in ap (λ (k : ℕ). bucketsRows k (bucketsOf s)) e
+  pub all-buckets : rowsFrom 0 ≡ bucketsRows firstDistance (bucketsOf s)
+  all-buckets = let e : firstDistance + 0 ≡ firstDistance = omega arith in ap (λ (k : ℕ). bucketsRows k (bucketsOf s)) e
 
   pub no-buckets : (slot : ℕ) → countOf s ≤ slot → rowsFrom slot ≡ []
   unfolding bucketsRows
   no-buckets slot h =
-      ap (λ (bs : List Contents). bucketsRows (firstNumber + slot) bs) (drop-of-length-le (bucketsOf s) {i = slot} (omega (arith, count-read s)))
+      ap (λ (bs : List Contents). bucketsRows (firstDistance + slot) bs) (drop-of-length-le (bucketsOf s) {i = slot} (omega (arith, count-read s)))
 
-  next-rows : (slot : ℕ) → slot < countOf s → rowsFrom slot ≡ bucketRows (firstNumber + slot) (bucketAt s slot) ++ rowsFrom (slot + 1)
+  next-rows : (slot : ℕ) → slot < countOf s → rowsFrom slot ≡ bucketRows (firstDistance + slot) (bucketAt s slot) ++ rowsFrom (slot + 1)
   unfolding bucketsRows
   next-rows slot h =
-      let e : suc (firstNumber + slot) ≡ firstNumber + (slot + 1) = omega arith in
-      ap (λ (bs : List Contents). bucketsRows (firstNumber + slot) bs) (next-bucket s slot h)
-      ∙ ap (λ (k : ℕ). bucketRows (firstNumber + slot) (bucketAt s slot) ++ bucketsRows k (drop (slot + 1) (bucketsOf s))) e
+      let e : suc (firstDistance + slot) ≡ firstDistance + (slot + 1) = omega arith in
+      ap (λ (bs : List Contents). bucketsRows (firstDistance + slot) bs) (next-bucket s slot h)
+      ∙ ap (λ (k : ℕ). bucketRows (firstDistance + slot) (bucketAt s slot) ++ bucketsRows k (drop (slot + 1) (bucketsOf s))) e
 
   -- the next bucket's rows are the next to be written
-  pub due-rows : (slot : ℕ) → slot < countOf s → {d₀ : Bytes} {at : ℕ} {all : List Bytes} {d : Bytes} {next number : ℕ}
-      → number ≡ firstNumber + slot → Progress d₀ at all (rowsFrom slot ∷ []) d next
-      → Progress d₀ at all (bucketRows number (bucketAt s slot) ∷ rowsFrom (slot + 1) ∷ []) d next
-  due-rows slot h {number = number} is p =
-      parted (bucketRows number (bucketAt s slot)) (rowsFrom (slot + 1))
+  pub due-rows : (slot : ℕ) → slot < countOf s → {d₀ : Bytes} {at : ℕ} {all : List Bytes} {d : Bytes} {next distance : ℕ}
+      → distance ≡ firstDistance + slot → Progress d₀ at all (rowsFrom slot ∷ []) d next
+      → Progress d₀ at all (bucketRows distance (bucketAt s slot) ∷ rowsFrom (slot + 1) ∷ []) d next
+  due-rows slot h {distance = distance} is p =
+      parted (bucketRows distance (bucketAt s slot)) (rowsFrom (slot + 1))
       (next-rows slot h ∙ ap (λ (k : ℕ). bucketRows k (bucketAt s slot) ++ rowsFrom (slot + 1)) (sym is)) p

@@ -28,40 +28,40 @@ use Rattle.printout.specs.TableRow.{tableWord, entryTotal, replacementTo
 use Rattle.printout.specs.Steps.{room}
 use Rattle.printout.specs.Printout.{entryRows, bucketRows, bucketsRows, printout}
 
-entries-bound : (word : Bytes) (number place : ℕ) (es : List Entry) → length word ≤ 4 → number < 1000 → place + length es ≤ 100 → All IsEntry es
-    → length (entryRows word number place es) ≤ length es * 137
+entries-bound : (word : Bytes) (distance place : ℕ) (es : List Entry) → length word ≤ 4 → distance < 1000 → place + length es ≤ 100 → All IsEntry es
+    → length (entryRows word distance place es) ≤ length es * 137
 unfolding entryRows
-entries-bound word number place [] hw hn hp is = omega arith
-entries-bound word number place (e ∷ es) hw hn hp is =
+entries-bound word distance place [] hw hn hp is = omega arith
+entries-bound word distance place (e ∷ es) hw hn hp is =
     omega (
       arith,
-      length-append (entryRow word number place e) (entryRows word number (suc place) es),
-      entry-bound word number place e hw hn (omega arith) (is .0),
-      entries-bound word number (suc place) es hw hn (omega arith) (is .1),
+      length-append (entryRow word distance place e) (entryRows word distance (suc place) es),
+      entry-bound word distance place e hw hn (omega arith) (is .0),
+      entries-bound word distance (suc place) es hw hn (omega arith) (is .1),
     )
 
-bucket-bound : (number : ℕ) (m : Contents) → number < 1000 → IsContents m → length (bucketRows number m) ≤ 20 * 137
+bucket-bound : (distance : ℕ) (m : Contents) → distance < 1000 → IsContents m → length (bucketRows distance m) ≤ 20 * 137
 unfolding bucketRows
-bucket-bound number m hn is =
+bucket-bound distance m hn is =
     omega (
       arith,
-      length-append (entryRows entryWord number 1 (m .entries)) (entryRows replacementWord number 1 (m .replacements)),
+      length-append (entryRows entryWord distance 1 (m .entries)) (entryRows replacementWord distance 1 (m .replacements)),
       is .most,
       is .mostWaiting,
-      entries-bound entryWord number 1 (m .entries) (omega arith) hn (omega (arith, is .most)) (is .entries),
-      entries-bound replacementWord number 1 (m .replacements) (omega arith) hn (omega (arith, is .mostWaiting)) (is .replacements),
+      entries-bound entryWord distance 1 (m .entries) (omega arith) hn (omega (arith, is .most)) (is .entries),
+      entries-bound replacementWord distance 1 (m .replacements) (omega arith) hn (omega (arith, is .mostWaiting)) (is .replacements),
     )
 
-buckets-bound : (number : ℕ) (ms : List Contents) → number + length ms ≤ 1000 → All IsContents ms
-    → length (bucketsRows number ms) ≤ length ms * (20 * 137)
+buckets-bound : (distance : ℕ) (ms : List Contents) → distance + length ms ≤ 1000 → All IsContents ms
+    → length (bucketsRows distance ms) ≤ length ms * (20 * 137)
 unfolding bucketsRows
-buckets-bound number [] hn is = omega arith
-buckets-bound number (m ∷ ms) hn is =
+buckets-bound distance [] hn is = omega arith
+buckets-bound distance (m ∷ ms) hn is =
     omega (
       arith,
-      length-append (bucketRows number m) (bucketsRows (suc number) ms),
-      bucket-bound number m (omega arith) (is .0),
-      buckets-bound (suc number) ms (omega arith) (is .1),
+      length-append (bucketRows distance m) (bucketsRows (suc distance) ms),
+      bucket-bound distance m (omega arith) (is .0),
+      buckets-bound (suc distance) ms (omega arith) (is .1),
     )
 
 totals-bound : (ms : List Contents) → All IsContents ms → (entryTotal ms ≤ length ms * 16) × (replacementTotal ms ≤ length ms * 4)
@@ -101,8 +101,8 @@ module _ (s : Bytes) (bs : IsBytes s) (h : tableSound s ≡ true) where
     printout-fits =
         omega (
           arith,
-          length-append (tableRow s) (bucketsRows (256 - countOf s) (bucketsOf s)),
+          length-append (tableRow s) (bucketsRows (257 - countOf s) (bucketsOf s)),
           head-bound,
           count-read s,
-          buckets-bound (256 - countOf s) (bucketsOf s) (omega (arith, count-read s)) all-contents,
+          buckets-bound (257 - countOf s) (bucketsOf s) (omega (arith, count-read s)) all-contents,
         )

@@ -1,12 +1,12 @@
 -- What is claimed of the printout of a sound table.
-use Prim.Native.Nat.{ℕ, suc, _+_, _-_, _^_, _≤_, _<_}
+use Prim.Native.Nat.{ℕ, suc, _-_}
 use mathlib.Core.Path.{_≡_}
 use mathlib.Core.Bool.{true}
 use mathlib.Core.List.{List, [], _∷_, _++_}
 use lib.ListN.{replicate}
 use Rattle.octets.specs.Octets.{Bytes, IsBytes}
 use Rattle.keccak.specs.Sponge.{keccak256}
-use Rattle.distance.specs.Distance.{distance}
+use Rattle.distance.specs.Distance.{logDistance}
 use Rattle.entry.specs.declared.Entry.{Entry}
 use Rattle.entry.specs.declared.EndpointProof.the-variants.{At}
 use Rattle.entry.specs.declared.PingState.the-variants.{Quiet}
@@ -20,23 +20,22 @@ use Rattle.printout.specs.Printout.{printout}
 
 -- ---- the distance printed
 
--- n is the logarithm of an entry's distance from the node with the hash `own`, rounded down
-pub record Logarithm (own : Bytes) (n : ℕ) (e : Entry) : Type 0 where
-  pub least : 2 ^ n ≤ distance own (keccak256 (e .key))
-  pub less : distance own (keccak256 (e .key)) < 2 ^ (n + 1)
+-- n is the logarithmic distance of an entry from the node with the hash `own`
+abbrev pub AtDistance : Bytes → ℕ → Entry → Type 0
+AtDistance own n e = logDistance own (keccak256 (e .key)) ≡ n
 
--- P holds of each bucket with its number; the first has this one, and they rise as in `bucketsRows`
-abbrev pub Numbered : (ℕ → Contents → Type 0) → ℕ → List Contents → Type 0
-Numbered P number [] = Unit {0}
-Numbered P number (b ∷ bs) = P number b × Numbered P (suc number) bs
+-- P holds of each bucket with its distance; the first has this one, and they rise as in `bucketsRows`
+abbrev pub Rising : (ℕ → Contents → Type 0) → ℕ → List Contents → Type 0
+Rising P n [] = Unit {0}
+Rising P n (b ∷ bs) = P n b × Rising P (suc n) bs
 
--- "The second field of a place is the logarithmic distance, log2 of the distance rounded down": the number printed with each entry and
--- each replacement of a sound table
+-- "The second field of a place is the logarithmic distance", by C-14 the length in bits: what is printed with each entry and each replacement
+-- of a sound table
 abbrev pub PrintedDistance : Type 0
 PrintedDistance =
-    (s : Bytes) → IsBytes s → tableSound s ≡ true → Numbered (λ number b. Every (Logarithm (ownOf s) number) b) (256 - countOf s) (bucketsOf s)
+    (s : Bytes) → IsBytes s → tableSound s ≡ true → Rising (λ n b. Every (AtDistance (ownOf s) n) b) (257 - countOf s) (bucketsOf s)
 
--- ---- document 01's example
+-- ---- document 01's example, with the logarithmic distance of C-14
 
 -- "A table of 16 with one node pinged at 100 that answered at 250, key starting 01 to 08, distance at least 2^255"
 module _ (rest hash : Bytes) where
@@ -58,10 +57,10 @@ module _ (rest hash : Bytes) where
 abbrev pub firstRow : Bytes
 firstRow = 0x74 ∷ 0x61 ∷ 0x62 ∷ 0x6c ∷ 0x65 ∷ 0x09 ∷ 0x31 ∷ 0x36 ∷ 0x09 ∷ 0x32 ∷ 0x35 ∷ 0x30 ∷ 0x09 ∷ 0x31 ∷ 0x09 ∷ 0x30 ∷ 0x0a ∷ []
 
--- seat<TAB>255<TAB>1<TAB>0102030405060708<TAB>c0000207<TAB>30303<TAB>30303<TAB>250<TAB>250<TAB>quiet
+-- seat<TAB>256<TAB>1<TAB>0102030405060708<TAB>c0000207<TAB>30303<TAB>30303<TAB>250<TAB>250<TAB>quiet
 abbrev pub secondRow : Bytes
 secondRow =
-    0x73 ∷ 0x65 ∷ 0x61 ∷ 0x74 ∷ 0x09 ∷ 0x32 ∷ 0x35 ∷ 0x35 ∷ 0x09 ∷ 0x31 ∷ 0x09 ∷ 0x30 ∷ 0x31 ∷ 0x30 ∷ 0x32 ∷ 0x30 ∷ 0x33 ∷ 0x30 ∷ 0x34 ∷ 0x30 ∷ 0x35 ∷ 0x30 ∷ 0x36 ∷ 0x30 ∷ 0x37 ∷ 0x30 ∷ 0x38 ∷ 0x09 ∷ 0x63 ∷ 0x30 ∷ 0x30 ∷ 0x30 ∷ 0x30 ∷ 0x32 ∷ 0x30 ∷ 0x37 ∷ 0x09 ∷ 0x33 ∷ 0x30 ∷ 0x33 ∷ 0x30 ∷ 0x33 ∷ 0x09 ∷ 0x33 ∷ 0x30 ∷ 0x33 ∷ 0x30 ∷ 0x33 ∷ 0x09 ∷ 0x32 ∷ 0x35 ∷ 0x30 ∷ 0x09 ∷ 0x32 ∷ 0x35 ∷ 0x30 ∷ 0x09 ∷ 0x71 ∷ 0x75 ∷ 0x69 ∷ 0x65 ∷ 0x74 ∷ 0x0a ∷ []
+    0x73 ∷ 0x65 ∷ 0x61 ∷ 0x74 ∷ 0x09 ∷ 0x32 ∷ 0x35 ∷ 0x36 ∷ 0x09 ∷ 0x31 ∷ 0x09 ∷ 0x30 ∷ 0x31 ∷ 0x30 ∷ 0x32 ∷ 0x30 ∷ 0x33 ∷ 0x30 ∷ 0x34 ∷ 0x30 ∷ 0x35 ∷ 0x30 ∷ 0x36 ∷ 0x30 ∷ 0x37 ∷ 0x30 ∷ 0x38 ∷ 0x09 ∷ 0x63 ∷ 0x30 ∷ 0x30 ∷ 0x30 ∷ 0x30 ∷ 0x32 ∷ 0x30 ∷ 0x37 ∷ 0x09 ∷ 0x33 ∷ 0x30 ∷ 0x33 ∷ 0x30 ∷ 0x33 ∷ 0x09 ∷ 0x33 ∷ 0x30 ∷ 0x33 ∷ 0x30 ∷ 0x33 ∷ 0x09 ∷ 0x32 ∷ 0x35 ∷ 0x30 ∷ 0x09 ∷ 0x32 ∷ 0x35 ∷ 0x30 ∷ 0x09 ∷ 0x71 ∷ 0x75 ∷ 0x69 ∷ 0x65 ∷ 0x74 ∷ 0x0a ∷ []
 
 -- its two rows, whatever the rest of the key and the ping hash are
 abbrev pub Example : Type 0

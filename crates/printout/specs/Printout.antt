@@ -14,20 +14,20 @@ use Rattle.printout.specs.TableRow.{tableRow}
 
 -- entries one after the other, the first of them in this place
 unfoldable pub entryRows : Bytes → ℕ → ℕ → List Entry → Bytes
-entryRows word number place [] = []
-entryRows word number place (e ∷ es) = entryRow word number place e ++ entryRows word number (suc place) es
+entryRows word distance place [] = []
+entryRows word distance place (e ∷ es) = entryRow word distance place e ++ entryRows word distance (suc place) es
 
 -- "the seats from the head, then its `wait` lines, places counted from 1"
 unfoldable pub bucketRows : ℕ → Contents → Bytes
-bucketRows number b = entryRows entryWord number 1 (b .entries) ++ entryRows replacementWord number 1 (b .replacements)
+bucketRows distance b = entryRows entryWord distance 1 (b .entries) ++ entryRows replacementWord distance 1 (b .replacements)
 
--- "buckets rising", the first of them with this number
+-- "buckets rising", the first of them at this logarithmic distance
 unfoldable pub bucketsRows : ℕ → List Contents → Bytes
-bucketsRows number [] = []
-bucketsRows number (b ∷ bs) = bucketRows number b ++ bucketsRows (suc number) bs
+bucketsRows distance [] = []
+bucketsRows distance (b ∷ bs) = bucketRows distance b ++ bucketsRows (suc distance) bs
 
 -- ---- the table
 
 -- the printout of the table with the bytes s
 unfoldable pub printout : Bytes → Bytes
-printout s = tableRow s ++ bucketsRows (256 - countOf s) (bucketsOf s)
+printout s = tableRow s ++ bucketsRows (257 - countOf s) (bucketsOf s)

@@ -77,40 +77,40 @@ fn put_entries(
     out: &mut [u8],
     at: usize,
     word: &[u8],
-    number: usize,
+    distance: usize,
     table: &[u8],
     from: usize,
     n: usize,
 ) -> usize
-    requires { ⌜ EntriesIn (now table) from n × (at + length (entryRows (now word) number 1 (entriesAt (now table) from n)) ≤ length (now out)) ⌝ }
-    ensures next { λ r. ⌜ r ≡ at + length (entryRows (now (word .entry)) number 1 (entriesAt (now (table .entry)) from n)) ⌝ }
-    ensures bytes { λ _. ⌜ now (out .exit) ≡ store (now (out .entry)) at (entryRows (now (word .entry)) number 1 (entriesAt (now (table .entry)) from n)) ⌝ }
+    requires { ⌜ EntriesIn (now table) from n × (at + length (entryRows (now word) distance 1 (entriesAt (now table) from n)) ≤ length (now out)) ⌝ }
+    ensures next { λ r. ⌜ r ≡ at + length (entryRows (now (word .entry)) distance 1 (entriesAt (now (table .entry)) from n)) ⌝ }
+    ensures bytes { λ _. ⌜ now (out .exit) ≡ store (now (out .entry)) at (entryRows (now (word .entry)) distance 1 (entriesAt (now (table .entry)) from n)) ⌝ }
 {
     let mut next = at;
     let mut i = 0;
     while i < n {
         let e = entry::load_entry(table, from + i * Entry::SIZE);
-        next = put_entry(out, next, word, number, i + 1, e);
+        next = put_entry(out, next, word, distance, i + 1, e);
         i += 1;
     }
     next
 }
 
-// The rows of the bucket in a slot, which has this number.
-fn put_bucket(out: &mut [u8], at: usize, number: usize, table: &[u8], slot: usize) -> usize
-    requires { ⌜ BucketIn (now table) slot × (at + length (bucketRows number (bucketAt (now table) slot)) ≤ length (now out)) ⌝ }
-    ensures next { λ r. ⌜ r ≡ at + length (bucketRows number (bucketAt (now (table .entry)) slot)) ⌝ }
-    ensures bytes { λ _. ⌜ now (out .exit) ≡ store (now (out .entry)) at (bucketRows number (bucketAt (now (table .entry)) slot)) ⌝ }
+// The rows of the bucket in a slot, at this logarithmic distance.
+fn put_bucket(out: &mut [u8], at: usize, distance: usize, table: &[u8], slot: usize) -> usize
+    requires { ⌜ BucketIn (now table) slot × (at + length (bucketRows distance (bucketAt (now table) slot)) ≤ length (now out)) ⌝ }
+    ensures next { λ r. ⌜ r ≡ at + length (bucketRows distance (bucketAt (now (table .entry)) slot)) ⌝ }
+    ensures bytes { λ _. ⌜ now (out .exit) ≡ store (now (out .entry)) at (bucketRows distance (bucketAt (now (table .entry)) slot)) ⌝ }
 {
     let start = table::HEADER_SIZE + slot * Bucket::SIZE;
     let entries = table[start] as usize;
     let replacements = table[start + 1] as usize;
-    let next = put_entries(out, at, b"seat", number, table, start + 2, entries);
+    let next = put_entries(out, at, b"seat", distance, table, start + 2, entries);
     put_entries(
         out,
         next,
         b"wait",
-        number,
+        distance,
         table,
         start + Bucket::REPLACEMENTS_AT,
         replacements,
@@ -119,12 +119,12 @@ fn put_bucket(out: &mut [u8], at: usize, number: usize, table: &[u8], slot: usiz
 
 // The rows of all buckets.
 fn put_buckets(out: &mut [u8], at: usize, table: &[u8]) -> usize
-    requires { ⌜ (tableSound (now table) ≡ true) × (at + length (bucketsRows (256 - countOf (now table)) (bucketsOf (now table))) ≤ length (now out)) ⌝ }
-    ensures next { λ r. ⌜ r ≡ at + length (bucketsRows (256 - countOf (now (table .entry))) (bucketsOf (now (table .entry)))) ⌝ }
-    ensures bytes { λ _. ⌜ now (out .exit) ≡ store (now (out .entry)) at (bucketsRows (256 - countOf (now (table .entry))) (bucketsOf (now (table .entry)))) ⌝ }
+    requires { ⌜ (tableSound (now table) ≡ true) × (at + length (bucketsRows (257 - countOf (now table)) (bucketsOf (now table))) ≤ length (now out)) ⌝ }
+    ensures next { λ r. ⌜ r ≡ at + length (bucketsRows (257 - countOf (now (table .entry))) (bucketsOf (now (table .entry)))) ⌝ }
+    ensures bytes { λ _. ⌜ now (out .exit) ≡ store (now (out .entry)) at (bucketsRows (257 - countOf (now (table .entry))) (bucketsOf (now (table .entry)))) ⌝ }
 {
     let count = table::bucket_count(table);
-    let first = 256 - count;
+    let first = 257 - count;
     let mut next = at;
     let mut slot = 0;
     while slot < count {

@@ -35,15 +35,15 @@ proof-bound Unproved h = omega arith
 proof-bound (At t) h = length-bound (t .0) h
 
 -- 4+1+3+1+2+1+16+1+32+1+5+1+5+1+20+1+20+1+20+1
-pub entry-bound : (word : Bytes) (number place : ℕ) (e : Entry) → length word ≤ 4 → number < 1000 → place < 100 → IsEntry e
-    → length (entryRow word number place e) ≤ 137
+pub entry-bound : (word : Bytes) (distance place : ℕ) (e : Entry) → length word ≤ 4 → distance < 1000 → place < 100 → IsEntry e
+    → length (entryRow word distance place e) ≤ 137
 unfolding entryRow
-entry-bound word number place e hw hn hp is =
-    let texts : List Bytes = decimal number ∷ decimal place ∷ keyText (e .key) ∷ hex (addressOf (e .endpoint)) ∷ decimal (e .endpoint .udp) ∷ decimal (e .endpoint .tcp) ∷ decimal (e .seen .0) ∷ proofText (e .proof) ∷ pingText (e .ping) ∷ [] in
+entry-bound word distance place e hw hn hp is =
+    let texts : List Bytes = decimal distance ∷ decimal place ∷ keyText (e .key) ∷ hex (addressOf (e .endpoint)) ∷ decimal (e .endpoint .udp) ∷ decimal (e .endpoint .tcp) ∷ decimal (e .seen .0) ∷ proofText (e .proof) ∷ pingText (e .ping) ∷ [] in
     omega (
       arith,
       length-row word texts,
-      length-below 2 number hn,
+      length-below 2 distance hn,
       length-below 1 place hp,
       key-bound (e .key),
       length-hex (addressOf (e .endpoint)),

@@ -21,10 +21,10 @@ proofText Unproved = noProof
 proofText (At t) = decimal (t .0)
 
 -- "distance, place, first 8 key bytes, address, ports, last seen, proof (`-` if none), `quiet` or the millisecond"; the distance is the
--- logarithmic one, the number of the bucket
+-- logarithmic one
 unfoldable pub entryRow : Bytes → ℕ → ℕ → Entry → Bytes
-entryRow word number place e =
-    row word (decimal number
+entryRow word distance place e =
+    row word (decimal distance
     ∷ decimal place
     ∷ keyText (e .key)
     ∷ hex (addressOf (e .endpoint))

@@ -15,7 +15,7 @@ use Rattle.printout_entry.specs.EntryRow.{proofText}
 
 -- the word, the distance and the place
 abbrev pub placeText : Bytes → ℕ → ℕ → Bytes
-placeText word number place = word ++ tabbed (decimal number ∷ decimal place ∷ [])
+placeText word distance place = word ++ tabbed (decimal distance ∷ decimal place ∷ [])
 
 -- the address and the ports
 abbrev pub endpointText : Endpoint → Bytes

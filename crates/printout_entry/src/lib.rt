@@ -45,13 +45,13 @@ fn put_endpoint(out: &mut [u8], at: usize, endpoint: Endpoint) -> usize
 }
 
 // The word, the distance and the place.
-fn put_place(out: &mut [u8], at: usize, word: &[u8], number: usize, place: usize) -> usize
-    requires { ⌜ at + length (placeText (now word) number place) ≤ length (now out) ⌝ }
-    ensures next { λ r. ⌜ r ≡ at + length (placeText (now (word .entry)) number place) ⌝ }
-    ensures bytes { λ _. ⌜ now (out .exit) ≡ store (now (out .entry)) at (placeText (now (word .entry)) number place) ⌝ }
+fn put_place(out: &mut [u8], at: usize, word: &[u8], distance: usize, place: usize) -> usize
+    requires { ⌜ at + length (placeText (now word) distance place) ≤ length (now out) ⌝ }
+    ensures next { λ r. ⌜ r ≡ at + length (placeText (now (word .entry)) distance place) ⌝ }
+    ensures bytes { λ _. ⌜ now (out .exit) ≡ store (now (out .entry)) at (placeText (now (word .entry)) distance place) ⌝ }
 {
     let next = put_word(out, at, word);
-    let next = decimal_field(out, next, number as u64);
+    let next = decimal_field(out, next, distance as u64);
     decimal_field(out, next, place as u64)
 }
 
@@ -78,20 +78,20 @@ pub fn put_entry(
     out: &mut [u8],
     at: usize,
     word: &[u8],
-    number: usize,
+    distance: usize,
     place: usize,
     e: Entry,
 ) -> usize
-    requires { ⌜ HasAddress e × (at + length (entryRow (now word) number place e) ≤ length (now out)) ⌝ }
-    ensures next { λ r. ⌜ r ≡ at + length (entryRow (now (word .entry)) number place e) ⌝ }
-    ensures bytes { λ _. ⌜ now (out .exit) ≡ store (now (out .entry)) at (entryRow (now (word .entry)) number place e) ⌝ }
+    requires { ⌜ HasAddress e × (at + length (entryRow (now word) distance place e) ≤ length (now out)) ⌝ }
+    ensures next { λ r. ⌜ r ≡ at + length (entryRow (now (word .entry)) distance place e) ⌝ }
+    ensures bytes { λ _. ⌜ now (out .exit) ≡ store (now (out .entry)) at (entryRow (now (word .entry)) distance place e) ⌝ }
 {
     let key = e.key;
     let endpoint = e.endpoint;
     let seen = e.seen;
     let proof = e.proof;
     let ping = e.ping;
-    let next = put_place(out, at, word, number, place);
+    let next = put_place(out, at, word, distance, place);
     let next = key_field(out, next, key);
     let next = put_endpoint(out, next, endpoint);
     put_times(out, next, seen, proof, ping)

@@ -3,8 +3,9 @@
 use crate::bucket::{Entry, PingState, PongOutcome};
 use crate::calls::Call;
 use crate::hex;
+use crate::keccak::keccak256;
 use crate::packet::{Endpoint, Packet};
-use crate::table::{number, Accepted, Counters, Outcome, Table};
+use crate::table::{distance, log_distance, number, Accepted, Counters, Outcome, Table};
 
 /// "at most 3,000 bytes without the 0A"
 pub const LONGEST_LINE: usize = 3000;
@@ -175,21 +176,21 @@ pub fn printout(table: &Table) -> String {
     let waiting: usize = table.buckets.iter().map(|bucket| bucket.replacements.len()).sum();
     let mut text = format!("table\t{}\t{}\t{seats}\t{waiting}\n", table.buckets.len(), table.clock);
     // "buckets rising, in each the seats from the head, then its `wait` lines, places counted from 1"
-    for (index, bucket) in table.buckets.iter().enumerate() {
-        let number = table.lowest() + index;
+    for bucket in &table.buckets {
         for (place, entry) in bucket.entries.iter().enumerate() {
-            text += &entry_line("seat", number, place + 1, entry);
+            text += &entry_line("seat", &table.own, place + 1, entry);
         }
         for (place, entry) in bucket.replacements.iter().enumerate() {
-            text += &entry_line("wait", number, place + 1, entry);
+            text += &entry_line("wait", &table.own, place + 1, entry);
         }
     }
     text
 }
 
-fn entry_line(word: &str, number: usize, place: usize, entry: &Entry) -> String {
+fn entry_line(word: &str, own: &[u8; 32], place: usize, entry: &Entry) -> String {
+    let log_distance = log_distance(&distance(own, &keccak256(&entry.key)));
     format!(
-        "{word}\t{number}\t{place}\t{}\t{}\t{}\t{}\t{}\t{}\t{}\n",
+        "{word}\t{log_distance}\t{place}\t{}\t{}\t{}\t{}\t{}\t{}\t{}\n",
         hex(&entry.key[..8]),
         hex(&entry.endpoint.address),
         entry.endpoint.udp,

@@ -51,8 +51,18 @@ pub fn distance(one: &[u8; 32], other: &[u8; 32]) -> [u8; 32] {
     std::array::from_fn(|i| one[i] ^ other[i])
 }
 
-/// "Bucket i has 2^i <= distance < 2^(i+1)."; None for distance 0. The same number is the logarithmic
-/// distance, "log2 of the distance rounded down".
+/// The logarithmic distance by C-14: the length of the distance in bits, 0 for equal hashes.
+pub fn log_distance(distance: &[u8; 32]) -> u32 {
+    let (high, low) = distance.split_at(16);
+    let [high, low] = [high, low].map(|half| u128::from_be_bytes(half.try_into().unwrap()));
+    if high == 0 {
+        128 - low.leading_zeros()
+    } else {
+        256 - high.leading_zeros()
+    }
+}
+
+/// "Bucket i has 2^i <= distance < 2^(i+1)."; None for distance 0.
 pub fn bucket_number(distance: &[u8; 32]) -> Option<usize> {
     let byte = distance.iter().position(|byte| *byte != 0)?;
     Some(8 * (31 - byte) + distance[byte].ilog2() as usize)

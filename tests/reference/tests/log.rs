@@ -172,9 +172,9 @@ fn l7_the_printout() {
     let (wide, narrow) = ("ab".repeat(16), "c0000207");
     let expected = format!(
         "table\t16\t0\t1\t2\n\
-         seat\t253\t1\t{near}\t{narrow}\t30303\t30303\t0\t0\t0\n\
-         wait\t255\t1\t{first}\t{wide}\t1\t30303\t0\t-\t0\n\
-         wait\t255\t2\t{second}\t{narrow}\t30303\t30303\t0\t-\t0\n"
+         seat\t254\t1\t{near}\t{narrow}\t30303\t30303\t0\t0\t0\n\
+         wait\t256\t1\t{first}\t{wide}\t1\t30303\t0\t-\t0\n\
+         wait\t256\t2\t{second}\t{narrow}\t30303\t30303\t0\t-\t0\n"
     );
     assert_eq!(log.printout(), expected);
     // the clock is that of the last accepted call

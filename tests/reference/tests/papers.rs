@@ -8,7 +8,7 @@ use reference::keccak::keccak256;
 use reference::log::replay;
 use reference::packet::{body, joined, read, Endpoint, Node, Packet};
 use reference::rlp::{integer, item, items, write_integer, write_list, write_string, Kind};
-use reference::table::{bucket_number, distance};
+use reference::table::{bucket_number, distance, log_distance};
 
 /// The number that an item says as an integer of up to 64 bits.
 fn read_integer(text: &str) -> Option<u64> {
@@ -143,8 +143,25 @@ fn p12_expiration_9() {
     assert_eq!(log.line(&format!("rx\t1\t9\tc0000207\t1\t{key}\t{ping}")), "0\tpong\tping");
 }
 
+/// C-14: "the logarithmic distance is 0 for equal hashes and otherwise bucket number plus one, 1 to 256"
+#[test]
+fn c14_logarithmic_distances() {
+    let lengths = |value: u8, at: usize| {
+        let mut distance = [0; 32];
+        distance[at] = value;
+        (log_distance(&distance), bucket_number(&distance))
+    };
+    assert_eq!(lengths(0, 0), (0, None));
+    assert_eq!(lengths(1, 31), (1, Some(0)));
+    assert_eq!(lengths(2, 31), (2, Some(1)));
+    assert_eq!(lengths(3, 31), (2, Some(1)));
+    assert_eq!(lengths(0x80, 16), (128, Some(127)));
+    assert_eq!(lengths(1, 15), (129, Some(128)));
+    assert_eq!(lengths(0x80, 0), (256, Some(255)));
+}
+
 /// "A table of 16 with one node pinged at 100 that answered at 250, key starting 01 to 08, distance
-/// at least 2^255"
+/// at least 2^255"; its second field is 256 since C-14
 #[test]
 fn the_example_printout() {
     // an own key that is far enough from the node
@@ -165,7 +182,7 @@ fn the_example_printout() {
     );
     let expected = "0\n0\n0\tseat\n\
         table\t16\t250\t1\t0\n\
-        seat\t255\t1\t0102030405060708\tc0000207\t30303\t30303\t250\t250\tquiet\n";
+        seat\t256\t1\t0102030405060708\tc0000207\t30303\t30303\t250\t250\tquiet\n";
     assert_eq!(replay(log.as_bytes()), expected);
 }
 
@@ -175,7 +192,7 @@ fn slip_distance_of_raw_keys() {
     let key = keys(250, 1)[0];
     let mut log = Log::new();
     log.sent(1, &key);
-    assert!(log.line_of(&key).unwrap().starts_with("wait\t250\t1\t"));
+    assert!(log.line_of(&key).unwrap().starts_with("wait\t251\t1\t"));
 }
 
 /// "pinging a held node where its last packet came from, so that one replayed packet from elsewhere

@@ -19,21 +19,21 @@ abbrev pieces : tie.Start → List Bytes
 pieces c =
     let s = c .args .table .now in
     let at = offsetOf (c .args .slot) in
-    entryRows entryWord (c .args .number) 1 (entriesAt s (at + 2) (getD s at 0))
-    ∷ entryRows replacementWord (c .args .number) 1 (entriesAt s (at + 2290) (getD s (at + 1) 0))
+    entryRows entryWord (c .args .distance) 1 (entriesAt s (at + 2) (getD s at 0))
+    ∷ entryRows replacementWord (c .args .distance) 1 (entriesAt s (at + 2290) (getD s (at + 1) 0))
     ∷ []
 
-pieces-are : (c : tie.Start) → concat (pieces c) ≡ bucketRows (c .args .number) (bucketAt (c .args .table .now) (c .args .slot))
+pieces-are : (c : tie.Start) → concat (pieces c) ≡ bucketRows (c .args .distance) (bucketAt (c .args .table .now) (c .args .slot))
 unfolding bucketRows
 pieces-are c =
     let a = c .args in
     let s = a .table .now in
     let at = offsetOf (a .slot) in
     let p = c .pre .0 in
-    let first = entryRows entryWord (a .number) 1 (entriesAt s (at + 2) (getD s at 0)) in
-    let rest = entryRows replacementWord (a .number) 1 (entriesAt s (at + 2290) (getD s (at + 1) 0)) in
+    let first = entryRows entryWord (a .distance) 1 (entriesAt s (at + 2) (getD s at 0)) in
+    let rest = entryRows replacementWord (a .distance) 1 (entriesAt s (at + 2290) (getD s (at + 1) 0)) in
     ap (λ (t : Bytes). first ++ t) (append-nil rest)
-    ∙ sym (ap (λ (m : Contents). bucketRows (a .number) m) (decode-bucket s at (omega (arith, p .within)) (p .entries .few) (p .few)))
+    ∙ sym (ap (λ (m : Contents). bucketRows (a .distance) m) (decode-bucket s at (omega (arith, p .within)) (p .entries .few) (p .few)))
 
 begun : (c : tie.Start) → Progress (c .args .out .now) (c .args .at) (pieces c) (pieces c) (c .args .out .now) (c .args .at)
 begun c = start (c .args .out .now) (c .args .at) (pieces c) (omega (arith, c .pre .1, ap length (pieces-are c)))

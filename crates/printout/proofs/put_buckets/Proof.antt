@@ -8,7 +8,7 @@ use Rattle.octets.specs.Octets.{Bytes}
 use Rattle.table_model.specs.Layout.{countOf, bucketsOf}
 use Rattle.octets.proofs.Progress.{Progress, room, step, renamed}
 use Rattle.printout.specs.Printout.{bucketsRows}
-use Rattle.printout.proofs.Rows.{passed, start-one, finish-one, firstNumber, rowsFrom, all-buckets, no-buckets, due-rows}
+use Rattle.printout.proofs.Rows.{passed, start-one, finish-one, firstDistance, rowsFrom, all-buckets, no-buckets, due-rows}
 use Rattle.printout.proofs.Slots.{header-in, at-most, bucket-in}
 use Rattle.printout.proofs.put_buckets.Statement.{statement}
 use Rattle.printout.proofs.put_buckets.Tie as tie
@@ -17,7 +17,7 @@ abbrev Inv-loop : tie.InvT-loop
 Inv-loop out₀ at table count first next₀ slot₀ out next slot =
     (slot ≤ countOf table)
     × (length out ≡ length out₀)
-    × Progress out₀ at (bucketsRows (firstNumber table) (bucketsOf table) ∷ []) (rowsFrom table slot ∷ []) out next
+    × Progress out₀ at (bucketsRows (firstDistance table) (bucketsOf table) ∷ []) (rowsFrom table slot ∷ []) out next
 
 abbrev μ-loop : tie.MeasureT-loop
 μ-loop out₀ at table count first next₀ slot₀ out next slot = count - slot
@@ -34,7 +34,7 @@ loop-holds c =
     let s = a .table .now in (
       omega arith,
       refl,
-      renamed (ap (λ (r : Bytes). r ∷ []) (sym (all-buckets s))) (start-one (a .out .now) (a .at) (bucketsRows (firstNumber s) (bucketsOf s)) (c .before .before .before .pre .1)),
+      renamed (ap (λ (r : Bytes). r ∷ []) (sym (all-buckets s))) (start-one (a .out .now) (a .at) (bucketsRows (firstDistance s) (bucketsOf s)) (c .before .before .before .pre .1)),
     )
 
 -- the bucket that a turn writes is kept
@@ -71,7 +71,7 @@ returns c =
     let s = a .table .now in
     let l = c .before .loop in
     let none = no-buckets s (l .slot) (omega (arith, c .loop-test .left, c .before .before .bucket-count .ensures)) in
-    finish-one (a .out .now) (a .at) (bucketsRows (firstNumber s) (bucketsOf s)) (passed none (l .inv .2))
+    finish-one (a .out .now) (a .at) (bucketsRows (firstDistance s) (bucketsOf s)) (passed none (l .inv .2))
 
 pub put-buckets-spec : {M : Type 1} → statement M
 put-buckets-spec =

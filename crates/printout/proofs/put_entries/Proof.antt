@@ -17,24 +17,24 @@ use Rattle.printout.proofs.put_entries.Statement.{statement}
 use Rattle.printout.proofs.put_entries.Tie as tie
 
 abbrev Inv-loop : tie.InvT-loop
-Inv-loop out₀ at word number table from n next₀ i₀ out next i =
+Inv-loop out₀ at word distance table from n next₀ i₀ out next i =
     (i ≤ n)
     × (length out ≡ length out₀)
     × All HasAddress (behind table from n i)
-    × Progress out₀ at (entryRows word number 1 (entriesAt table from n) ∷ []) (rowsBehind word number table from n i ∷ []) out next
+    × Progress out₀ at (entryRows word distance 1 (entriesAt table from n) ∷ []) (rowsBehind word distance table from n i ∷ []) out next
 
 abbrev μ-loop : tie.MeasureT-loop
-μ-loop out₀ at word number table from n next₀ i₀ out next i = n - i
+μ-loop out₀ at word distance table from n next₀ i₀ out next i = n - i
 
 loop-holds : tie.Need-loop-holds Inv-loop μ-loop
 loop-holds c =
     let s = c .before .before .before in
     let a = s .args in
-    let all = entryRows (a .word .now) (a .number) 1 (entriesAt (a .table .now) (a .from) (a .n)) in (
+    let all = entryRows (a .word .now) (a .distance) 1 (entriesAt (a .table .now) (a .from) (a .n)) in (
       omega arith,
       refl,
       subst (λ (es : List Entry). All HasAddress es) (sym (behind-all (a .table .now) (a .from) (a .n))) (s .pre .0 .addresses),
-      renamed (ap (λ (r : Bytes). r ∷ []) (sym (all-rows (a .word .now) (a .number) (a .table .now) (a .from) (a .n)))) (start-one (a .out .now) (a .at) all (s .pre .1)),
+      renamed (ap (λ (r : Bytes). r ∷ []) (sym (all-rows (a .word .now) (a .distance) (a .table .now) (a .from) (a .n)))) (start-one (a .out .now) (a .at) all (s .pre .1)),
     )
 
 mul-load-entry : tie.Need-mul-load-entry Inv-loop μ-loop
@@ -55,8 +55,8 @@ put-entry-requires c κs =
     let l = c .before .before .before .loop in
     let t = c .before .before .loop-test .taken in
     let is = c .before .load-entry .ensures in (
-      holds-here (a .word .now) (a .number) (a .table .now) (a .from) (a .n) (l .i) t HasAddress (l .inv .2) is,
-      room (due-row (a .word .now) (a .number) (a .table .now) (a .from) (a .n) (l .i) t is (l .inv .3)),
+      holds-here (a .word .now) (a .distance) (a .table .now) (a .from) (a .n) (l .i) t HasAddress (l .inv .2) is,
+      room (due-row (a .word .now) (a .distance) (a .table .now) (a .from) (a .n) (l .i) t is (l .inv .3)),
     )
 
 add-i : tie.Need-add-i Inv-loop μ-loop
@@ -71,16 +71,16 @@ loop-again c =
     let w = c .before .before .put-entry in (
       omega arith,
       w .kept .0 ∙ l .inv .1,
-      holds-behind (a .word .now) (a .number) (a .table .now) (a .from) (a .n) (l .i) t HasAddress (l .inv .2),
-      step (due-row (a .word .now) (a .number) (a .table .now) (a .from) (a .n) (l .i) t is (l .inv .3)) (w .ensures),
+      holds-behind (a .word .now) (a .distance) (a .table .now) (a .from) (a .n) (l .i) t HasAddress (l .inv .2),
+      step (due-row (a .word .now) (a .distance) (a .table .now) (a .from) (a .n) (l .i) t is (l .inv .3)) (w .ensures),
     )
 
 returns : tie.Need-returns Inv-loop μ-loop
 returns c =
     let a = c .before .before .before .before .before .args in
     let l = c .before .loop in
-    let all = entryRows (a .word .now) (a .number) 1 (entriesAt (a .table .now) (a .from) (a .n)) in
-    let none = no-rows (a .word .now) (a .number) (a .table .now) (a .from) (a .n) (l .i) (l .inv .0) (c .loop-test .left) in
+    let all = entryRows (a .word .now) (a .distance) 1 (entriesAt (a .table .now) (a .from) (a .n)) in
+    let none = no-rows (a .word .now) (a .distance) (a .table .now) (a .from) (a .n) (l .i) (l .inv .0) (c .loop-test .left) in
     finish-one (a .out .now) (a .at) all (passed none (l .inv .3))
 
 pub put-entries-spec : {M : Type 1} → statement M

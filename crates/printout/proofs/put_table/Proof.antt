@@ -15,13 +15,13 @@ use Rattle.printout.proofs.put_table.Statement.{statement}
 use Rattle.printout.proofs.put_table.Tie as tie
 
 abbrev pieces : tie.Start → List Bytes
-pieces c = let s = c .args .table .now in tableRow s ∷ bucketsRows (256 - countOf s) (bucketsOf s) ∷ []
+pieces c = let s = c .args .table .now in tableRow s ∷ bucketsRows (257 - countOf s) (bucketsOf s) ∷ []
 
 pieces-are : (c : tie.Start) → concat (pieces c) ≡ printout (c .args .table .now)
 unfolding printout
 pieces-are c =
     let s = c .args .table .now in
-    ap (λ (t : Bytes). tableRow s ++ t) (append-nil (bucketsRows (256 - countOf s) (bucketsOf s)))
+    ap (λ (t : Bytes). tableRow s ++ t) (append-nil (bucketsRows (257 - countOf s) (bucketsOf s)))
 
 begun : (c : tie.Start) → IsBytes (c .args .table .now) → Progress (c .args .out .now) 0 (pieces c) (pieces c) (c .args .out .now) 0
 begun c bs =

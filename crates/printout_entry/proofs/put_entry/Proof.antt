@@ -20,18 +20,18 @@ abbrev pieces : tie.Start → List Bytes
 pieces c =
     let a = c .args in
     let e = a .e in
-    placeText (a .word .now) (a .number) (a .place)
+    placeText (a .word .now) (a .distance) (a .place)
     ∷ (0x09 ∷ keyText (e .key))
     ∷ endpointText (e .endpoint)
     ∷ timesText (e .seen) (e .proof) (e .ping)
     ∷ []
 
-pieces-are : (c : tie.Start) → let a = c .args in concat (pieces c) ≡ entryRow (a .word .now) (a .number) (a .place) (a .e)
+pieces-are : (c : tie.Start) → let a = c .args in concat (pieces c) ≡ entryRow (a .word .now) (a .distance) (a .place) (a .e)
 unfolding entryRow
 pieces-are c =
     let a = c .args in
     let e = a .e in
-    row-parts (a .word .now) (decimal (a .number) ∷ decimal (a .place) ∷ []) (keyText (e .key))
+    row-parts (a .word .now) (decimal (a .distance) ∷ decimal (a .place) ∷ []) (keyText (e .key))
     (hex (addressOf (e .endpoint)) ∷ decimal (e .endpoint .udp) ∷ decimal (e .endpoint .tcp) ∷ [])
     (decimal (e .seen .0) ∷ proofText (e .proof) ∷ pingText (e .ping) ∷ [])
 

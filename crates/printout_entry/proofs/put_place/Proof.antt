@@ -9,7 +9,7 @@ use Rattle.printout_entry.proofs.put_place.Statement.{statement}
 use Rattle.printout_entry.proofs.put_place.Tie as tie
 
 abbrev pieces : tie.Start → List Bytes
-pieces c = c .args .word .now ∷ (0x09 ∷ decimal (c .args .number)) ∷ (0x09 ∷ decimal (c .args .place)) ∷ []
+pieces c = c .args .word .now ∷ (0x09 ∷ decimal (c .args .distance)) ∷ (0x09 ∷ decimal (c .args .place)) ∷ []
 
 begun : (c : tie.Start) → Progress (c .args .out .now) (c .args .at) (pieces c) (pieces c) (c .args .out .now) (c .args .at)
 begun c = start (c .args .out .now) (c .args .at) (pieces c) (c .pre)
