@@ -80,7 +80,7 @@ enum {
     COGHAMMER_EXPIRATION,
     COGHAMMER_HAS_ENR_SEQ,
     COGHAMMER_ENR_SEQ,
-    COGHAMMER_FROM_START,
+    COGHAMMER_FROM_START, // an unknown address has start 0 and length 0; its ports are told
     COGHAMMER_FROM_LEN,
     COGHAMMER_FROM_UDP,
     COGHAMMER_FROM_TCP,
@@ -109,7 +109,7 @@ void coghammer_node_at(const uint8_t *datagram, size_t datagram_len, size_t star
 
 // ---- packets written: a body into buf; the code is of 0 and the body's size, or of 19 (room too short) or 20 (can't be written)
 
-// A Ping: version 4. enr_seq counts only where has_enr_seq.
+// A Ping: version 4. A from_len of 0 says that the address is unknown. enr_seq counts only where has_enr_seq.
 uint32_t coghammer_write_ping(uint8_t *buf, size_t buf_len, const uint8_t *from, size_t from_len, uint16_t from_udp, uint16_t from_tcp, const uint8_t *to, size_t to_len, uint16_t to_udp, uint64_t expiration, bool has_enr_seq, uint64_t enr_seq);
 
 // A Pong.

@@ -95,6 +95,7 @@ static void writers(void) {
     CHECK(is(coghammer_write_enr_request(body, 4, 200), 0, 4));
     CHECK(body[0] == 5 && body[1] == 0xc2 && body[2] == 0x81 && body[3] == 200 && all(body + 4, LARGEST - 4, 0xaa));
     CHECK(is(coghammer_write_ping(body, LARGEST, address, 3, 1, 2, address, 4, 3, 4, false, 0), 20, 0));
+    CHECK(is(coghammer_write_ping(body, LARGEST, address, 0, 1, 2, address, 0, 3, 4, false, 0), 20, 0));
     CHECK(is(coghammer_write_ping(body, 1, address, 4, 1, 2, address, 4, 3, 4, false, 0), 19, 0));
     CHECK(is(coghammer_write_pong(body, LARGEST, address, 4, 3, hash, 31, 4, false, 0), 20, 0));
     CHECK(is(coghammer_write_pong(body, 1, address, 4, 3, hash, 32, 4, false, 0), 19, 0));
@@ -119,6 +120,13 @@ static void writers(void) {
     CHECK(fields[COGHAMMER_FROM_UDP] == 1 && fields[COGHAMMER_FROM_TCP] == 2);
     CHECK(fields[COGHAMMER_TO_LEN] == 4 && memcmp(datagram + fields[COGHAMMER_TO_START], other, 4) == 0);
     CHECK(fields[COGHAMMER_TO_UDP] == 3 && fields[COGHAMMER_HASH_LEN] == 0 && fields[COGHAMMER_RECORD_LEN] == 0);
+
+    // an unknown `from`
+    len = datagram_of(datagram, body, coghammer_write_ping(body, LARGEST, address, 0, 1, 2, other, 4, 3, now_unix, true, 9));
+    CHECK(coghammer_packet(datagram, len, fields) == 0 && fields[COGHAMMER_TYPE] == 1);
+    CHECK(fields[COGHAMMER_FROM_START] == 0 && fields[COGHAMMER_FROM_LEN] == 0);
+    CHECK(fields[COGHAMMER_FROM_UDP] == 1 && fields[COGHAMMER_FROM_TCP] == 2);
+    CHECK(fields[COGHAMMER_TO_LEN] == 4 && memcmp(datagram + fields[COGHAMMER_TO_START], other, 4) == 0);
 
     len = datagram_of(datagram, body, coghammer_write_pong(body, LARGEST, address, 4, 3, hash, 32, 7, false, 9));
     CHECK(coghammer_packet(datagram, len, fields) == 0 && fields[COGHAMMER_TYPE] == 2);

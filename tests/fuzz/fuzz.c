@@ -274,7 +274,7 @@ static uint64_t write_body(unsigned type, size_t space, uint64_t expiration, con
     uint64_t n[] = {expiration, any(), any_size(), any()};
     lent address = {to->address, about(to->len), NULL}, hash = {to->hash, about(32), NULL};
     switch (type) {
-    case 1: return call(write_ping, (lent[6]){buf, {peers[below(PEERS)].address, about(4), NULL}, address}, n);
+    case 1: return call(write_ping, (lent[6]){buf, {peers[below(PEERS)].address, chance(20) ? 0 : about(4), NULL}, address}, n);
     case 2: return call(write_pong, (lent[6]){buf, address, hash}, n);
     case 3: return call(write_find_node, (lent[6]){buf, {own, about(64), NULL}}, n);
     case 4: return call(write_neighbors, (lent[6]){buf, {nodes, any_nodes(nodes), NULL}}, n);
@@ -337,6 +337,9 @@ static void read_datagram(void) {
                                 COGHAMMER_RECORD_START};
     for (int i = 0; i < 6; i++) check(fields[spans[i]] <= wire_len && fields[spans[i] + 1] <= wire_len - fields[spans[i]], "a field lies outside");
     check(fields[COGHAMMER_TYPE] >= 1 && fields[COGHAMMER_TYPE] <= 6, "a type that isn't there");
+    uint64_t from = fields[COGHAMMER_FROM_LEN], to = fields[COGHAMMER_TO_LEN];
+    if (fields[COGHAMMER_TYPE] == 1) check(from == 4 || from == 16 || (from == 0 && fields[COGHAMMER_FROM_START] == 0), "a `from` that can't be");
+    if (fields[COGHAMMER_TYPE] <= 2) check(to == 4 || to == 16, "a `to` that can't be");
     if (fields[COGHAMMER_TYPE] != 4) return;
     uint64_t n[] = {fields[COGHAMMER_NODES_START], fields[COGHAMMER_NODES_LEN], 0};
     uint64_t count = call(node_count, (lent[6]){{wire, wire_len, NULL}}, n);

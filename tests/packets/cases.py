@@ -97,7 +97,7 @@ def writing(v, kind):
     """(arguments of the case, the reference's answer)"""
     x, enr, udp, tcp, udp2 = v.number(), v.enr(), v.port(), v.port(), v.port()
     if kind == PING:
-        a, b = v.sized([4, 16]), v.sized([4, 16])
+        a, b = v.sized([0, 4, 16]), v.sized([4, 16])
         return dict(expiration=x, enr=enr, udp=udp, tcp=tcp, udp2=udp2, first=a, second=b), ref.write_ping(a, udp, tcp, b, udp2, x, enr)
     if kind == PONG:
         a, h = v.sized([4, 16]), v.sized([32])
@@ -148,8 +148,8 @@ def encoded(item):
 
 
 def fields(v, kind):
-    def endpoint():
-        return [v.bytes(v.r.choice([4, 16])), v.port(), v.port()]
+    def endpoint(empty=0.03):
+        return [b"" if v.chance(empty) else v.bytes(v.r.choice([4, 16])), v.port(), v.port()]
 
     def enr():
         e = v.enr()
@@ -159,7 +159,7 @@ def fields(v, kind):
     x = v.number()
     if kind == PING:
         e = enr()
-        return [v.r.choice([4, 4, 5, v.number()]), endpoint(), endpoint(), x] + e + (extra if e else [])
+        return [v.r.choice([4, 4, 5, v.number()]), endpoint(0.3), endpoint(), x] + e + (extra if e else [])
     if kind == PONG:
         e = enr()
         return [endpoint(), v.bytes(32), x] + e + (extra if e else [])
@@ -255,7 +255,7 @@ def read_line(d, unix):
     out = ["0", str(kind)]
     if kind == PING:
         a, b = f["from"], f["to"]
-        out += [str(f["version"]), a[0].hex(), str(a[1]), str(a[2]), b[0].hex(), str(b[1])]
+        out += [str(f["version"]), "unknown" if a[0] is None else a[0].hex(), str(a[1]), str(a[2]), b[0].hex(), str(b[1])]
     if kind == PONG:
         out += [f["to"][0].hex(), str(f["to"][1]), f["hash"].hex()]
     if kind == FIND_NODE:
@@ -290,6 +290,30 @@ def published():
             yield case(READ, first=d), read_line(d, 0)
 
 
+def unknown():
+    """C-13: an empty address in Ping's `from`, around it, and in every other place."""
+    four, ports = bytes([10, 0, 0, 7]), [30303, 30304]
+    froms = [[b""] + ports, [[]] + ports, [Raw(b"\x00")] + ports, [b"\x80"] + ports, [bytes(5)] + ports, [b"", 30303], [], [Raw(b"\x81\x00")] + ports]
+    froms += [[b""] + ports + [7], [b""] + ports + [Raw(b"\x82\x07")], [b"", 65536, 1], [b"", b"", b""], [four] + ports, [bytes(16)] + ports, b""]
+    for a in froms:
+        yield 1, [4, a, [four, 1, 0], 9]
+    yield 1, [4, [b""] + ports, [b""] + ports, 9, 5]
+    yield 1, [4, [four] + ports, [b""] + ports, 9]
+    yield 2, [[b""] + ports, bytes(32), 9]
+    yield 4, [[[b""] + ports + [bytes(64)]], 9]
+
+
+def unknown_cases():
+    for kind, items in unknown():
+        rest = bytes(65) + bytes([kind]) + encoded(items)
+        d = ref.keccak256(rest) + rest
+        yield case(READ, first=d), read_line(d, 0)
+    for a in b"", bytes([10, 0, 0, 7]), bytes(16), bytes(1):
+        for b in b"", bytes([10, 0, 0, 8]):
+            number, after = ref.into(b"\xee" * 80, ref.write_ping(a, 30303, 30304, b, 1, 9, None))
+            yield case(PING, 80, expiration=9, udp=30303, tcp=30304, udp2=1, first=a, second=b), f"{number}\t{after.hex()}"
+
+
 def generated(seed, count, kinds):
     v = Values(seed)
     for i in range(count):
@@ -308,6 +332,6 @@ ALL = [READ, PING, READ, PONG, READ, FIND_NODE, READ, NEIGHBORS, READ, ENR_REQUE
 
 if __name__ == "__main__":
     if sys.argv[1] == "--stored":
-        save(list(published()) + list(generated(1, 210, ALL)), os.path.join(sys.argv[2], "stdin"), os.path.join(sys.argv[2], "stdout"))
+        save(list(published()) + list(unknown_cases()) + list(generated(1, 210, ALL)), os.path.join(sys.argv[2], "stdin"), os.path.join(sys.argv[2], "stdout"))
     else:
         save(generated(int(sys.argv[1]), int(sys.argv[2]), ALL), sys.argv[3], sys.argv[4])

@@ -134,6 +134,14 @@ def address(item):
     return s
 
 
+def sender_address(item):
+    """C-13: in Ping's `from` an empty address is unknown: None."""
+    is_list, s, _ = item
+    if is_list or len(s) not in (0, 4, 16):
+        raise Wrong
+    return s or None
+
+
 def exactly(*kinds):
     def kind(item):
         is_list, s, _ = item
@@ -149,6 +157,7 @@ def exactly(*kinds):
 
 port = uint(16)
 endpoint = exactly(address, port, port)
+sender = exactly(sender_address, port, port)
 node = exactly(address, port, port, fixed(64))
 
 
@@ -184,7 +193,7 @@ def read_data(kind, data):
         f = {}
         if kind == 1:
             f["version"] = r.next(uint(64))
-            f["from"] = r.next(endpoint)
+            f["from"] = r.next(sender)
             f["to"] = r.next(endpoint)
             f["expiration"] = r.next(uint(64))
             f["enr_seq"] = r.next(uint(64), optional=True)
@@ -240,7 +249,8 @@ def _written(kind, fields, ok):
 
 
 def write_ping(sender, sender_udp, sender_tcp, to, to_udp, expiration, enr_seq):
-    ok = len(sender) in (4, 16) and len(to) in (4, 16)
+    """An empty `sender` is unknown."""
+    ok = len(sender) in (0, 4, 16) and len(to) in (4, 16)
     return _written(1, [4, [sender, sender_udp, sender_tcp], [to, to_udp, 0], expiration] + _enr(enr_seq), ok)
 
 

@@ -1,6 +1,6 @@
 -- The fields of a packet as numbers in fixed places: type; version; expiration; enr-seq: present, value; from: start, length, UDP, TCP;
 -- to: start, length, UDP; hash: start, length; target: start, length; nodes: start, length; record: start, length. A field that the packet
--- does not have is 0.
+-- does not have is 0, and so are the start and the length of an unknown `from`.
 use Prim.Native.Nat.{ℕ}
 use mathlib.Core.List.{List, [], _∷_}
 use Rattle.node.specs.declared.Node.{Node}
@@ -10,6 +10,8 @@ use Rattle.packet.specs.declared.Packet.{Packet}
 use Rattle.packet.specs.declared.Packet.the-variants as packet
 use Rattle.packet.specs.declared.Parsed.{Parsed}
 use Rattle.packet.specs.declared.Parsed.the-variants as parsed
+use Rattle.packet.specs.declared.SenderAddress.{SenderAddress}
+use Rattle.packet.specs.declared.SenderAddress.the-variants.{Unknown, Known}
 use Rattle.packet.specs.declared.Ping.{Ping}
 use Rattle.packet.specs.declared.Pong.{Pong}
 use Rattle.packet.specs.declared.FindNode.{FindNode}
@@ -26,10 +28,19 @@ abbrev pub seqValue : EnrSeq → ℕ
 seqValue Absent = 0
 seqValue (Present n) = n
 
+-- an unknown address starts at 0 and has no bytes
+abbrev pub fromStart : SenderAddress → ℕ
+fromStart Unknown = 0
+fromStart (Known span) = span .start
+
+abbrev pub fromLen : SenderAddress → ℕ
+fromLen Unknown = 0
+fromLen (Known span) = span .len
+
 abbrev pub flatPing : Ping → List ℕ
 flatPing p =
     1 ∷ p .version ∷ p .expiration ∷ seqPresent (p .«enr_seq») ∷ seqValue (p .«enr_seq»)
-    ∷ p .from .address .start ∷ p .from .address .len ∷ p .from .udp ∷ p .from .tcp
+    ∷ fromStart (p .from .address) ∷ fromLen (p .from .address) ∷ p .from .udp ∷ p .from .tcp
     ∷ p .to .address .start ∷ p .to .address .len ∷ p .to .udp
     ∷ 0 ∷ 0 ∷ 0 ∷ 0 ∷ 0 ∷ 0 ∷ 0 ∷ 0 ∷ []
 

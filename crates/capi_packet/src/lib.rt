@@ -3,7 +3,7 @@ ghost use mathlib.Core.Path.{_≡_};
 ghost use Rattle.packet_span.specs.Parts.{bytesOf};
 ghost use Rattle.packet_fields.specs.Spans.{nodeAt};
 ghost use Rattle.packet_datagram.specs.Datagram.{packetIn};
-ghost use Rattle.capi_packet.specs.Fields.{seqPresent, seqValue, flatPing, flatPong, flatFindNode, flatNeighbors, flatEnrRequest, flatEnrResponse, flatPacket, readNumber, fieldsAfter, flatNode};
+ghost use Rattle.capi_packet.specs.Fields.{seqPresent, seqValue, fromStart, fromLen, flatPing, flatPong, flatFindNode, flatNeighbors, flatEnrRequest, flatEnrResponse, flatPacket, readNumber, fieldsAfter, flatNode};
 use packet::EnrRequest;
 use packet::EnrResponse;
 use packet::FindNode;
@@ -12,6 +12,7 @@ use packet::Packet;
 use packet::Parsed;
 use packet::Ping;
 use packet::Pong;
+use packet::SenderAddress;
 use packet_model::EnrSeq;
 use packet_span::Span;
 
@@ -33,22 +34,44 @@ fn seq_value(enr_seq: EnrSeq) -> u64
     }
 }
 
+fn from_start(address: SenderAddress) -> u64
+    ensures { λ r. ⌜ r ≡ fromStart address ⌝ }
+{
+    match address {
+        SenderAddress::Unknown => 0,
+        SenderAddress::Known(span) => span.start as u64,
+    }
+}
+
+fn from_len(address: SenderAddress) -> u64
+    ensures { λ r. ⌜ r ≡ fromLen address ⌝ }
+{
+    match address {
+        SenderAddress::Unknown => 0,
+        SenderAddress::Known(span) => span.len as u64,
+    }
+}
+
 fn flat_ping(p: Ping) -> [u64; 20]
     ensures { λ r. ⌜ r ≡ flatPing p ⌝ }
 {
     let enr_seq = p.enr_seq;
     let present = seq_present(enr_seq);
     let seq = seq_value(enr_seq);
+    let from = p.from;
+    let address = from.address;
+    let start = from_start(address);
+    let len = from_len(address);
     [
         1,
         p.version,
         p.expiration,
         present,
         seq,
-        p.from.address.start as u64,
-        p.from.address.len as u64,
-        p.from.udp as u64,
-        p.from.tcp as u64,
+        start,
+        len,
+        from.udp as u64,
+        from.tcp as u64,
         p.to.address.start as u64,
         p.to.address.len as u64,
         p.to.udp as u64,

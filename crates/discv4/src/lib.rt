@@ -42,7 +42,7 @@ pub use written::written_size;
 
 // ---- packets read
 // An accepted datagram's packet has numbers, and spans of the datagram: `field_part` gives the bytes of an address, a target or a
-// hash, `node_count` and `node_at` the nodes of a Neighbors.
+// hash, `node_count` and `node_at` the nodes of a Neighbors. The address in a Ping's `from` may be unknown.
 pub use packet::EnrRequest;
 pub use packet::EnrResponse;
 pub use packet::FindNode;
@@ -51,6 +51,7 @@ pub use packet::Ping;
 pub use packet::Pong;
 pub use packet::Recipient;
 pub use packet::Sender;
+pub use packet::SenderAddress;
 pub use packet_datagram::record_part;
 pub use packet_envelope::hash_part;
 pub use packet_envelope::signature_part;

@@ -5,11 +5,11 @@ use Rattle.rlp.specs.Reading.{head, sized, long, strict, whole, count, uintOf}
 use Rattle.packet_schema.specs.Payload.{itemsOf}
 use Rattle.packet_schema.specs.Schema.{field}
 use Rattle.packet_fields.specs.Spans.{spanOf, itemSpan, uintItem, portItem, enrSeqItem}
-use Rattle.packet.specs.Packets.{typeOf, enrRequestOf, readAs}
+use Rattle.packet.specs.Packets.{typeOf, endpointOf, pingOf, enrRequestOf, readAs}
 use Rattle.packet.specs.Examples.{Examples}
 
 pub examples : Examples
-unfolding part numberFrom head sized long strict whole count uintOf itemsOf field spanOf itemSpan uintItem portItem enrSeqItem typeOf enrRequestOf readAs
+unfolding part numberFrom head sized long strict whole count uintOf itemsOf field spanOf itemSpan uintItem portItem enrSeqItem typeOf endpointOf pingOf enrRequestOf readAs
 examples =
     record {
       unknown-type = refl;
@@ -26,4 +26,6 @@ examples =
       broken-first = refl;
       broken-later = refl;
       node-too-short = refl;
+      unknown-from = refl;
+      empty-to = refl;
     }

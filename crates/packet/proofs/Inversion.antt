@@ -2,6 +2,7 @@
 use Prim.Native.Nat.{ℕ, zero, suc, _-_, _≤_, _<_, _^_}
 use mathlib.Core.Path.{_≡_, refl, sym, ap, subst, _∙_}
 use mathlib.Core.Logic.{_↔_}
+use mathlib.Core.Bool.{true}
 use mathlib.Core.List.{List, [], _∷_}
 use native.Mathlib.Omega.{arith}
 use lib.ListN.{length, getD, drop, length-drop}
@@ -11,11 +12,12 @@ use Rattle.rlp.proofs.Encoding.{small-first, small-rest}
 use Rattle.packet_model.specs.Items.{uint, endpoint, pingItems, pongItems, findNodeItems, enrRequestItems, enrResponseItems}
 use Rattle.packet_model.specs.declared.EnrSeq.{EnrSeq}
 use Rattle.packet_model.specs.declared.EnrSeq.the-variants.{Absent, Present}
-use Rattle.packet_schema.specs.Shapes.{IsEndpoint, Shapes, Begins, Accepted}
+use Rattle.packet_model.specs.From.{From, fromBytes, isFrom}
+use Rattle.packet_schema.specs.Shapes.{Shapes, Begins, Accepted}
 use Rattle.packet_span.specs.Parts.{bytesOf, moved}
 use Rattle.packet_fields.specs.Spans.{spanOf, itemSpan, uintItem, enrSeqItem}
-use Rattle.packet.specs.Packets.{anyUint, schemaOf, senderOf, pingOf, pongOf, findNodeOf, enrRequestOf, enrResponseOf, readAs}
-use Rattle.packet.specs.Accepted.{trailing, SeqFits, PingFields, pingFields, PingEncoded, PongFields, pongFields, PongEncoded, FindNodeFields, findNodeFields, FindNodeEncoded, EnrRequestFields, enrRequestFields, EnrRequestEncoded, EnrResponseFields, enrResponseFields, EnrResponseEncoded}
+use Rattle.packet.specs.Packets.{anyUint, schemaOf, endpointOf, senderOf, pingOf, pongOf, findNodeOf, enrRequestOf, enrResponseOf, readAs}
+use Rattle.packet.specs.Accepted.{trailing, SeqFits, fromOf, PingFields, pingFields, PingEncoded, PongFields, pongFields, PongEncoded, FindNodeFields, findNodeFields, FindNodeEncoded, EnrRequestFields, enrRequestFields, EnrRequestEncoded, EnrResponseFields, enrResponseFields, EnrResponseEncoded}
 use Rattle.packet.specs.declared.PacketType.the-variants as type
 use Rattle.packet.specs.declared.Packet.the-variants as packet
 use Rattle.packet.specs.declared.Parsed.the-variants as parsed
@@ -24,7 +26,7 @@ use Rattle.packet.specs.declared.Pong.{Pong}
 use Rattle.packet.specs.declared.FindNode.{FindNode}
 use Rattle.packet.specs.declared.EnrRequest.{EnrRequest}
 use Rattle.packet.specs.declared.EnrResponse.{EnrResponse}
-use Rattle.packet.proofs.Values.{bytes-is, uint-is, present-is, absent-is, whole-is, address-is, udp-is, tcp-is}
+use Rattle.packet.proofs.Values.{bytes-is, uint-is, present-is, absent-is, whole-is, address-is, udp-is, tcp-is, from-is}
 use Rattle.packet.proofs.Accepted.{bytesFrom, payload, start, payload-lies, small-items, payload-items, both}
 
 -- ---- the optional enr-seq
@@ -87,18 +89,21 @@ module _ (g : Bytes) (base : ℕ) (sl : Slice g) (fits : base ≤ length g) wher
     record-at n l e = whole-is g at s is (payload-lies g base sl fits) items small n l e
 
     -- the endpoint that is item n
-    module _ (n : ℕ) {a : Bytes} {u t : ℕ} (e : getD is n (string []) ≡ endpoint a u t) (good : IsEndpoint a u t) where
+    module _ (n : ℕ) (a : Bytes) (u t : ℕ) (e : getD is n (string []) ≡ endpoint a u t) where
       part-small : length (payloadOf (endpoint a u t)) < 2 ^ 64
       part-small = subst (λ (i : Item). length (payloadOf i) < 2 ^ 64) e (nth-small is small n)
 
-      address-at : bytesOf g (senderOf at n s .address) ≡ a
-      address-at = address-is g at s is (payload-lies g base sl fits) items small n a u t e good part-small
+      address-at : bytesOf g (endpointOf at n s .address) ≡ a
+      address-at = address-is g at s is (payload-lies g base sl fits) items small n a u t e part-small
 
-      udp-at : senderOf at n s .udp ≡ u
-      udp-at = udp-is g at s is (payload-lies g base sl fits) items small n a u t e good part-small
+      udp-at : u ≤ 65535 → endpointOf at n s .udp ≡ u
+      udp-at = udp-is g at s is (payload-lies g base sl fits) items small n a u t e part-small
 
-      pub tcp-at : senderOf at n s .tcp ≡ t
-      tcp-at = tcp-is g at s is (payload-lies g base sl fits) items small n a u t e good part-small
+      pub tcp-at : t ≤ 65535 → endpointOf at n s .tcp ≡ t
+      tcp-at = tcp-is g at s is (payload-lies g base sl fits) items small n a u t e part-small
+
+    from-at : (n : ℕ) (f : From) (u t : ℕ) → getD is n (string []) ≡ endpoint (fromBytes f) u t → isFrom f ≡ true → fromOf g (senderOf at n s .address) ≡ f
+    from-at n f u t e h = from-is g at s is (payload-lies g base sl fits) items small n f u t e (part-small n (fromBytes f) u t e) h
 
     -- the enr-seq that is item n, after the first n
     seq-at : (n : ℕ) (e : EnrSeq) (more : List Item) → drop n is ≡ trailing e more → n ≤ length is → SeqFits e → enrSeqItem n s ≡ e
@@ -126,7 +131,7 @@ module _ (g : Bytes) (base : ℕ) (sl : Slice g) (fits : base ≤ length g) wher
           let q = seq-found more (h .1 .1 .1 .1) in (
             record {
               version = v .value;
-              from-address = from .address;
+              from-address = from .from;
               from-udp = from .udp;
               from-tcp = from .tcp;
               to-address = to .address;
@@ -149,12 +154,12 @@ module _ (g : Bytes) (base : ℕ) (sl : Slice g) (fits : base ≤ length g) wher
   ping-accepted′ : (f : PingFields) → PingEncoded d f → Accepted 4 (schemaOf type.Ping) d
   ping-accepted′ f e =
       record {
-        items = pingItems (f .version) (endpoint (f .from-address) (f .from-udp) (f .from-tcp)) (endpoint (f .to-address) (f .to-udp) (e .to-tcp)) (f .expiration) (trailing (f .enr-seq) (e .more));
+        items = pingItems (f .version) (endpoint (fromBytes (f .from-address)) (f .from-udp) (f .from-tcp)) (endpoint (f .to-address) (f .to-udp) (e .to-tcp)) (f .expiration) (trailing (f .enr-seq) (e .more));
         begins = e .begins;
         shapes = (
           record { value = f .version; is = refl; fits = fits-64 (e .version-fits) },
           (
-            record { address = f .from-address; udp = f .from-udp; tcp = f .from-tcp; is = refl; good = e .from-good },
+            record { from = f .from-address; udp = f .from-udp; tcp = f .from-tcp; is = refl; good = e .from-good },
             (
               record { address = f .to-address; udp = f .to-udp; tcp = e .to-tcp; is = refl; good = e .to-good },
               (record { value = f .expiration; is = refl; fits = fits-64 (e .expiration-fits) }, seq-shapes (f .enr-seq) (e .more) (e .enr-seq-fits)),
@@ -167,13 +172,14 @@ module _ (g : Bytes) (base : ℕ) (sl : Slice g) (fits : base ≤ length g) wher
   unfolding pingOf
   ping-values f e =
       let b = e .begins in
+      let a : Bytes = fromBytes (f .from-address) in
       λ i. record {
         version = uint-at _ b 0 refl (e .version-fits) i;
-        from-address = address-at _ b 1 refl (e .from-good) i;
-        from-udp = udp-at _ b 1 refl (e .from-good) i;
-        from-tcp = tcp-at _ b 1 refl (e .from-good) i;
-        to-address = address-at _ b 2 refl (e .to-good) i;
-        to-udp = udp-at _ b 2 refl (e .to-good) i;
+        from-address = from-at _ b 1 (f .from-address) (f .from-udp) (f .from-tcp) refl (e .from-good .sized) i;
+        from-udp = udp-at _ b 1 a (f .from-udp) (f .from-tcp) refl (e .from-good .udp-fits) i;
+        from-tcp = tcp-at _ b 1 a (f .from-udp) (f .from-tcp) refl (e .from-good .tcp-fits) i;
+        to-address = address-at _ b 2 (f .to-address) (f .to-udp) (e .to-tcp) refl i;
+        to-udp = udp-at _ b 2 (f .to-address) (f .to-udp) (e .to-tcp) refl (e .to-good .udp-fits) i;
         expiration = uint-at _ b 3 refl (e .expiration-fits) i;
         enr-seq = seq-at _ b 4 (f .enr-seq) (e .more) refl (omega arith) (e .enr-seq-fits) i;
       }
@@ -227,8 +233,8 @@ module _ (g : Bytes) (base : ℕ) (sl : Slice g) (fits : base ≤ length g) wher
   pong-values f e =
       let b = e .begins in
       λ i. record {
-        to-address = address-at _ b 0 refl (e .to-good) i;
-        to-udp = udp-at _ b 0 refl (e .to-good) i;
+        to-address = address-at _ b 0 (f .to-address) (f .to-udp) (e .to-tcp) refl i;
+        to-udp = udp-at _ b 0 (f .to-address) (f .to-udp) (e .to-tcp) refl (e .to-good .udp-fits) i;
         ping-hash = bytes-at _ b 1 refl i;
         expiration = uint-at _ b 2 refl (e .expiration-fits) i;
         enr-seq = seq-at _ b 3 (f .enr-seq) (e .more) refl (omega arith) (e .enr-seq-fits) i;

@@ -10,7 +10,7 @@ use Rattle.packet_schema.specs.declared.Verdict.{Verdict}
 use Rattle.packet_schema.specs.declared.Verdict.the-variants.{Good}
 use Rattle.packet_span.specs.Parts.{bytesOf, moved}
 use Rattle.packet_fields.specs.Spans.{spanOf, portItem}
-use Rattle.packet.specs.Packets.{senderOf, schemaOf, requiredOf, packetOf, answered, readAs}
+use Rattle.packet.specs.Packets.{endpointOf, schemaOf, requiredOf, packetOf, answered, readAs}
 use Rattle.packet.specs.declared.Packet.{Packet}
 use Rattle.packet.specs.declared.Parsed.{Parsed}
 use Rattle.packet.specs.declared.Parsed.the-variants as parsed
@@ -22,10 +22,10 @@ module _ (base n : ℕ) (s : Bytes) (span : Span) (e : Bytes) (is : span ≡ spa
   inside : e ≡ bytesOf s (spanOf n s)
   inside = bytes ∙ ap (bytesOf s) is
 
-  pub sender-is : (inner a : Span) (u t : ℕ) → inner ≡ spanOf 0 e → a ≡ moved (base + span .start) inner → u ≡ portItem 1 e → t ≡ portItem 2 e
-      → record { address = a; udp = u; tcp = t } ≡ senderOf base n s
-  unfolding senderOf
-  sender-is inner a u t i m p q =
+  pub endpoint-is : (inner a : Span) (u t : ℕ) → inner ≡ spanOf 0 e → a ≡ moved (base + span .start) inner → u ≡ portItem 1 e → t ≡ portItem 2 e
+      → record { address = a; udp = u; tcp = t } ≡ endpointOf base n s
+  unfolding endpointOf
+  endpoint-is inner a u t i m p q =
       let pa : a ≡ moved (base + (spanOf n s) .start) (spanOf 0 (bytesOf s (spanOf n s))) =
       m ∙ ap (moved (base + span .start)) (i ∙ ap (spanOf 0) inside) ∙ ap (λ (x : Span). moved (base + x .start) (spanOf 0 (bytesOf s (spanOf n s)))) is in
       let pu = p ∙ ap (portItem 1) inside in

@@ -15,6 +15,7 @@ use Rattle.rlp.proofs.Reading.{item-bounds}
 use Rattle.rlp.proofs.Writing.{header-short, header-long, encode-framed, encode-list}
 use Rattle.rlp.proofs.Encoding.{read-item, encode-length, small-first, small-rest}
 use Rattle.packet_model.specs.Items.{uint, node, nodeItem}
+use Rattle.packet_model.proofs.From.{address-range}
 use Rattle.packet_schema.specs.Shapes.{IsEndpoint, IsNode, AllNodes}
 use Rattle.packet_schema.proofs.Payload.{items-encodes}
 use Rattle.node.specs.declared.Node.{Node}
@@ -24,15 +25,6 @@ use Rattle.packet.specs.Accepted.{NodeGood, NodesGood}
 use Rattle.packet.proofs.Values.{Lies, item-is, port-is}
 
 -- ---- addresses and keys, padded
-
-address-range : (a : Bytes) → isAddress a ≡ true → (4 ≤ length a) × (length a ≤ 16)
-address-range a h = go (eqb (length a) 4) refl
-  where
-    go : (b : Bool) → eqb (length a) 4 ≡ b → (4 ≤ length a) × (length a ≤ 16)
-    go true e = let q = eqb-true (length a) 4 e in (omega arith, omega arith)
-    go false e =
-        let q = eqb-true (length a) 16 (rw e at h) in
-        (omega arith, omega arith)
 
 fitting-is : (n : ℕ) (s : Bytes) → length s ≤ n → fitting n s ≡ s
 fitting-is n s h = rw (le-leb (length s) n h)
@@ -65,14 +57,14 @@ module _ (a : Bytes) (u t : ℕ) (k : Bytes) (good : IsEndpoint a u t) (sized : 
       let i₀ = ap payloadOf (item-is p 0 p parts lies refl small 0) in
       let i₃ = ap payloadOf (item-is p 0 p parts lies refl small 3) in
       let key = ap (padded 64) i₃ ∙ padded-all 64 k sized in
-      let len = ap (λ (x : Bytes). length (fitting 16 x)) i₀ ∙ ap length (fitting-is 16 a (address-range a (good .sized) .1)) in
+      let len = ap (λ (x : Bytes). length (fitting 16 x)) i₀ ∙ ap length (fitting-is 16 a (address-range (length a) (good .sized) .1)) in
       let address = ap (padded 16) i₀ in
       let udp = port-is p 0 p parts lies refl small 1 refl (good .udp-fits) in
       let tcp = port-is p 0 p parts lies refl small 2 refl (good .tcp-fits) in
       λ j. record { key = key j; endpoint = record { len = len j; address = address j; udp = udp j; tcp = tcp j } }
 
   back : addressOf (made a u t k .endpoint) ≡ a
-  back = padded-front 16 a (address-range a (good .sized) .1)
+  back = padded-front 16 a (address-range (length a) (good .sized) .1)
 
   made-item : nodeItem (made a u t k) ≡ node a u t k
   made-item = ap (λ (x : Bytes). node x u t k) back
@@ -158,7 +150,7 @@ node-size n h small =
     let is₁ : List Item = u ∷ is₂ in
     let s₁ : Small is₁ = small-rest (string a) is₁ small in
     let s₂ : Small is₂ = small-rest u is₂ s₁ in
-    let r = address-range a (h .good .sized) in
+    let r = address-range (length a) (h .good .sized) in
     let ea = ap length (encode-framed a (λ (o : length a ≡ 1). absurd (omega arith))) ∙ length-append (header 0x80 (length a)) a in
     let ha = ap length (header-short 0x80 (length a) (omega arith)) in
     let ek = ap length (encode-framed k (λ (o : length k ≡ 1). absurd (omega (arith, h .key-sized)))) ∙ length-append (header 0x80 (length k)) k in

@@ -1,9 +1,10 @@
 -- The values that are read of a payload whose items are known.
 use Prim.Native.Nat.{ℕ, suc, _+_, _≤_, _<_, _^_}
 use mathlib.Core.Path.{_≡_, refl, sym, ap, _∙_}
+use mathlib.Core.Bool.{true}
 use mathlib.Core.List.{List, [], _∷_, _++_}
 use native.Mathlib.Omega.{arith}
-use borrow.Author.Tests.{le-leb, lt-ltb, le-ltb}
+use borrow.Author.Tests.{le-leb, lt-ltb, le-ltb, eq-eqb, ne-eqb}
 use lib.ListN.{length, take, drop, getD, length-drop}
 use lib.Seq.{drop-cons, take-append-seam}
 use Rattle.octets.specs.Octets.{Bytes, part}
@@ -14,14 +15,23 @@ use Rattle.rlp.proofs.Encoding.{read-item, read-payload, encode-length, uint-re
 use Rattle.packet_model.specs.Items.{dataOf, uint, endpoint}
 use Rattle.packet_model.specs.declared.EnrSeq.the-variants.{Absent, Present}
 use Rattle.packet_schema.specs.Payload.{itemsOf}
-use Rattle.packet_schema.specs.Shapes.{IsEndpoint, Begins}
+use Rattle.packet_model.specs.From.{From, unknown, known, fromBytes, isFrom}
+use Rattle.packet_model.proofs.From.{address-range}
+use Rattle.packet_schema.specs.Shapes.{Begins}
 use Rattle.packet_schema.proofs.Payload.{items-item, items-encodes}
 use Rattle.packet_span.specs.Parts.{bytesOf, moved}
 use Rattle.packet_fields.specs.Spans.{spanOf, itemSpan, itemAt, valueOf, uintItem, portItem, enrSeqItem}
-use Rattle.packet.specs.Packets.{senderOf}
+use Rattle.packet.specs.Packets.{endpointOf, senderOf, said}
+use Rattle.packet.specs.Accepted.{fromOf}
+use Rattle.packet.specs.declared.SenderAddress.the-variants.{Unknown, Known}
 use Rattle.packet_span.specs.declared.Span.{Span}
 use Rattle.packet_span.proofs.Parts.{bytes-in}
 use Rattle.packet_fields.proofs.Spans.{span-bound, item-span-bound, span-payload}
+
+span-length : (n : ℕ) (s : Bytes) → length (bytesOf s (spanOf n s)) ≡ (spanOf n s) .len
+span-length n s =
+    let sp : Span = spanOf n s in
+    ap length (bytes-in s sp (span-bound n s)) ∙ length-part s (sp .start) (sp .len) (span-bound n s)
 
 -- s is the bytes of g from `at` on
 pub record Lies (g : Bytes) (at : ℕ) (s : Bytes) : Type 0 where
@@ -49,7 +59,7 @@ module _ (g : Bytes) (at : ℕ) (s : Bytes) (lies : Lies g at s) where
   lies-inner n =
       let sp : Span = spanOf n s in
       let b = span-bound n s in
-      let l : length (bytesOf s sp) ≡ sp .len = ap length (bytes-in s sp b) ∙ length-part s (sp .start) (sp .len) b in
+      let l : length (bytesOf s sp) ≡ sp .len = span-length n s in
       let i : at + sp .start + sp .len ≤ length g = omega (arith, lies .inside) in
       record {
         inside = omega arith;
@@ -111,7 +121,7 @@ data-payload d is small b =
 
 -- an endpoint that is item n
 module _ (g : Bytes) (at : ℕ) (s : Bytes) (is : List Item) (lies : Lies g at s) (items : s ≡ encodes is) (small : Small is) (n : ℕ) (a : Bytes) (u t : ℕ)
-    (is-endpoint : getD is n (string []) ≡ endpoint a u t) (good : IsEndpoint a u t) (fits : length (payloadOf (endpoint a u t)) < 2 ^ 64) where
+    (is-endpoint : getD is n (string []) ≡ endpoint a u t) (fits : length (payloadOf (endpoint a u t)) < 2 ^ 64) where
   parts : List Item
   parts = string a ∷ uint u ∷ uint t ∷ []
 
@@ -130,14 +140,36 @@ module _ (g : Bytes) (at : ℕ) (s : Bytes) (is : List Item) (lies : Lies g at s
   unfolding parts
   small-parts = fits
 
-  pub address-is : bytesOf g (senderOf at n s .address) ≡ a
-  unfolding senderOf e parts
+  pub address-is : bytesOf g (endpointOf at n s .address) ≡ a
+  unfolding endpointOf e parts
   address-is = bytes-is g (at + (spanOf n s) .start) e parts there inner small-parts 0 refl
 
-  pub udp-is : senderOf at n s .udp ≡ u
-  unfolding senderOf e parts
-  udp-is = port-is g (at + (spanOf n s) .start) e parts there inner small-parts 1 refl (good .udp-fits)
+  pub udp-is : u ≤ 65535 → endpointOf at n s .udp ≡ u
+  unfolding endpointOf e parts
+  udp-is h = port-is g (at + (spanOf n s) .start) e parts there inner small-parts 1 refl h
 
-  pub tcp-is : senderOf at n s .tcp ≡ t
-  unfolding senderOf e parts
-  tcp-is = port-is g (at + (spanOf n s) .start) e parts there inner small-parts 2 refl (good .tcp-fits)
+  pub tcp-is : t ≤ 65535 → endpointOf at n s .tcp ≡ t
+  unfolding endpointOf e parts
+  tcp-is h = port-is g (at + (spanOf n s) .start) e parts there inner small-parts 2 refl h
+
+  -- the span of its address has the address's size
+  len-is : endpointOf at n s .address .len ≡ length a
+  unfolding endpointOf e parts
+  len-is = sym (span-length 0 e) ∙ ap length (span-payload 0 e ∙ ap payloadOf (item-is g (at + (spanOf n s) .start) e parts there inner small-parts 0))
+
+said-unknown : (a : Span) → a .len ≡ 0 → said a ≡ Unknown
+said-unknown a h = rw (eq-eqb (a .len) 0 h)
+
+said-known : (a : Span) → 0 < a .len → said a ≡ Known a
+said-known a h = rw (ne-eqb (a .len) 0 (λ e. omega arith))
+
+-- a span says `f` if it has the bytes and the size of `f`
+said-is : (g : Bytes) (a : Span) (f : From) → isFrom f ≡ true → a .len ≡ length (fromBytes f) → bytesOf g a ≡ fromBytes f → fromOf g (said a) ≡ f
+said-is g a unknown h l b = ap (fromOf g) (said-unknown a l)
+said-is g a (known x) h l b = ap (fromOf g) (said-known a (omega (arith, address-range (length x) h))) ∙ ap known b
+
+-- the address in `from` that is item n
+pub from-is : (g : Bytes) (at : ℕ) (s : Bytes) (is : List Item) → Lies g at s → s ≡ encodes is → Small is → (n : ℕ) (f : From) (u t : ℕ)
+    → getD is n (string []) ≡ endpoint (fromBytes f) u t → length (payloadOf (endpoint (fromBytes f) u t)) < 2 ^ 64 → isFrom f ≡ true → fromOf g (senderOf at n s .address) ≡ f
+from-is g at s is lies items small n f u t e fits h =
+    said-is g (endpointOf at n s .address) f h (len-is g at s is lies items small n (fromBytes f) u t e fits) (address-is g at s is lies items small n (fromBytes f) u t e fits)

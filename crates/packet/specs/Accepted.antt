@@ -8,7 +8,8 @@ use Rattle.rlp.specs.Encoding.{Item, list, encode}
 use Rattle.packet_model.specs.Items.{uint, endpoint, nodeItem, pingItems, pongItems, findNodeItems, neighborsItems, enrRequestItems, enrResponseItems}
 use Rattle.packet_model.specs.declared.EnrSeq.{EnrSeq}
 use Rattle.packet_model.specs.declared.EnrSeq.the-variants.{Absent, Present}
-use Rattle.packet_schema.specs.Shapes.{IsEndpoint, Begins}
+use Rattle.packet_model.specs.From.{From, unknown, known, fromBytes}
+use Rattle.packet_schema.specs.Shapes.{IsEndpoint, IsSender, Begins}
 use Rattle.node.specs.declared.Node.{Node}
 use Rattle.node.specs.Nodes.{addressOf}
 use Rattle.packet_span.specs.Parts.{bytesOf}
@@ -17,6 +18,8 @@ use Rattle.packet.specs.declared.PacketType.{PacketType}
 use Rattle.packet.specs.declared.PacketType.the-variants as type
 use Rattle.packet.specs.declared.Packet.{Packet}
 use Rattle.packet.specs.declared.Packet.the-variants as packet
+use Rattle.packet.specs.declared.SenderAddress.{SenderAddress}
+use Rattle.packet.specs.declared.SenderAddress.the-variants.{Unknown, Known}
 use Rattle.packet.specs.declared.Ping.{Ping}
 use Rattle.packet.specs.declared.Pong.{Pong}
 use Rattle.packet.specs.declared.FindNode.{FindNode}
@@ -35,9 +38,14 @@ SeqFits (Present n) = n < 2 ^ 64
 
 -- ---- 1 Ping
 
+-- the address in `from`, of the datagram g
+abbrev pub fromOf : Bytes → SenderAddress → From
+fromOf g Unknown = unknown
+fromOf g (Known span) = known (bytesOf g span)
+
 pub record PingFields : Type 0 where
   pub version : ℕ
-  pub from-address : Bytes
+  pub from-address : From
   pub from-udp : ℕ
   pub from-tcp : ℕ
   pub to-address : Bytes
@@ -50,7 +58,7 @@ abbrev pub pingFields : Bytes → Ping → PingFields
 pingFields g p =
     record {
       version = p .version;
-      from-address = bytesOf g (p .from .address);
+      from-address = fromOf g (p .from .address);
       from-udp = p .from .udp;
       from-tcp = p .from .tcp;
       to-address = bytesOf g (p .to .address);
@@ -63,9 +71,9 @@ pingFields g p =
 pub record PingEncoded (d : Bytes) (f : PingFields) : Type 0 where
   pub to-tcp : ℕ
   pub more : List Item
-  pub begins : Begins d (pingItems (f .version) (endpoint (f .from-address) (f .from-udp) (f .from-tcp)) (endpoint (f .to-address) (f .to-udp) to-tcp) (f .expiration) (trailing (f .enr-seq) more))
+  pub begins : Begins d (pingItems (f .version) (endpoint (fromBytes (f .from-address)) (f .from-udp) (f .from-tcp)) (endpoint (f .to-address) (f .to-udp) to-tcp) (f .expiration) (trailing (f .enr-seq) more))
   pub version-fits : f .version < 2 ^ 64
-  pub from-good : IsEndpoint (f .from-address) (f .from-udp) (f .from-tcp)
+  pub from-good : IsSender (f .from-address) (f .from-udp) (f .from-tcp)
   pub to-good : IsEndpoint (f .to-address) (f .to-udp) to-tcp
   pub expiration-fits : f .expiration < 2 ^ 64
   pub enr-seq-fits : SeqFits (f .enr-seq)

@@ -1,8 +1,10 @@
 -- The answers of small data, by type: which number goes before which, and what is not examined.
 use mathlib.Core.Path.{_≡_}
 use mathlib.Core.List.{[], _∷_}
+use Rattle.packet_model.specs.declared.EnrSeq.the-variants.{Absent}
 use Rattle.packet.specs.Packets.{readData}
-use Rattle.packet.specs.declared.Packet.the-variants.{EnrRequest}
+use Rattle.packet.specs.declared.SenderAddress.the-variants.{Unknown}
+use Rattle.packet.specs.declared.Packet.the-variants.{Ping, EnrRequest}
 use Rattle.packet.specs.declared.Parsed.the-variants.{Packet, Refused}
 
 pub record Examples : Type 0 where
@@ -27,3 +29,13 @@ pub record Examples : Type 0 where
   -- 9 in a later node goes before 10 in an earlier one
   pub broken-later : readData 4 98 (0xc5 ∷ 0xc3 ∷ 0xc0 ∷ 0xc1 ∷ 0x81 ∷ 0x09 ∷ []) ≡ Refused 9
   pub node-too-short : readData 4 98 (0xc3 ∷ 0xc1 ∷ 0xc0 ∷ 0x09 ∷ []) ≡ Refused 10
+  -- an empty address in `from` is unknown, and its ports are told; in `to` it is 10
+  pub unknown-from : readData 1 98 (0xce ∷ 0x04 ∷ 0xc3 ∷ 0x80 ∷ 0x01 ∷ 0x02 ∷ 0xc7 ∷ 0x84 ∷ 0x0a ∷ 0x00 ∷ 0x00 ∷ 0x07 ∷ 0x03 ∷ 0x80 ∷ 0x09 ∷ [])
+      ≡ Packet (Ping (record {
+        version = 4;
+        from = record { address = Unknown; udp = 1; tcp = 2 };
+        to = record { address = record { start = 106; len = 4 }; udp = 3 };
+        expiration = 9;
+        «enr_seq» = Absent;
+      }))
+  pub empty-to : readData 1 98 (0xce ∷ 0x04 ∷ 0xc7 ∷ 0x84 ∷ 0x0a ∷ 0x00 ∷ 0x00 ∷ 0x07 ∷ 0x01 ∷ 0x02 ∷ 0xc3 ∷ 0x80 ∷ 0x03 ∷ 0x80 ∷ 0x09 ∷ []) ≡ Refused 10

@@ -6,7 +6,7 @@ use lib.Dec.{eqb}
 use Rattle.octets.specs.Octets.{Bytes}
 use Rattle.packet_schema.specs.Schema.{verdict}
 use Rattle.packet_schema.specs.declared.Kind.{Kind}
-use Rattle.packet_schema.specs.declared.Kind.the-variants.{Uint, Endpoint, Nodes, Record}
+use Rattle.packet_schema.specs.declared.Kind.the-variants.{Uint, Endpoint, Sender, Nodes, Record}
 use Rattle.packet_schema.specs.declared.Kind.the-variants as kind
 use Rattle.packet_schema.specs.declared.Verdict.{Verdict}
 use Rattle.packet_schema.specs.declared.Verdict.the-variants.{Good, Broken, Wrong}
@@ -20,7 +20,11 @@ use Rattle.packet.specs.declared.Packet.{Packet}
 use Rattle.packet.specs.declared.Packet.the-variants as packet
 use Rattle.packet.specs.declared.Parsed.{Parsed}
 use Rattle.packet.specs.declared.Parsed.the-variants as parsed
-use Rattle.packet.specs.declared.Sender.{Sender}
+use Rattle.packet_span.specs.declared.Span.{Span}
+use Rattle.packet.specs.declared.SenderAddress.{SenderAddress}
+use Rattle.packet.specs.declared.SenderAddress.the-variants as address
+use Rattle.packet.specs.declared.EndpointSpan.{EndpointSpan}
+use Rattle.packet.specs.declared.Sender as from
 use Rattle.packet.specs.declared.Recipient.{Recipient}
 use Rattle.packet.specs.declared.Ping.{Ping}
 use Rattle.packet.specs.declared.Pong.{Pong}
@@ -52,7 +56,7 @@ anyUint = Uint (2 ^ 64 - 1)
 
 -- what the items must be
 abbrev pub schemaOf : PacketType → List Kind
-schemaOf type.Ping = anyUint ∷ Endpoint ∷ Endpoint ∷ anyUint ∷ anyUint ∷ []
+schemaOf type.Ping = anyUint ∷ Sender ∷ Endpoint ∷ anyUint ∷ anyUint ∷ []
 schemaOf type.Pong = Endpoint ∷ kind.Bytes 32 ∷ anyUint ∷ anyUint ∷ []
 schemaOf type.FindNode = kind.Bytes 64 ∷ anyUint ∷ []
 schemaOf type.Neighbors = Nodes ∷ anyUint ∷ []
@@ -71,18 +75,29 @@ requiredOf type.EnrResponse = 2
 -- the fields of the list's payload s, which begins at `base` of the datagram
 
 -- item n, an endpoint, by its payload e, which begins at `base` of the datagram
-abbrev pub senderAt : ℕ → Bytes → Sender
-senderAt base e = record { address = moved base (spanOf 0 e); udp = portItem 1 e; tcp = portItem 2 e }
+abbrev pub endpointAt : ℕ → Bytes → EndpointSpan
+endpointAt base e = record { address = moved base (spanOf 0 e); udp = portItem 1 e; tcp = portItem 2 e }
 
-unfoldable pub senderOf : ℕ → ℕ → Bytes → Sender
-senderOf base n s = senderAt (base + (spanOf n s) .start) (bytesOf s (spanOf n s))
+unfoldable pub endpointOf : ℕ → ℕ → Bytes → EndpointSpan
+endpointOf base n s = endpointAt (base + (spanOf n s) .start) (bytesOf s (spanOf n s))
+
+-- C-13: "say 'unknown' for 0"
+abbrev pub said : Span → SenderAddress
+said a = cond (eqb (a .len) 0) address.Unknown (address.Known a)
+
+-- `from`, with both ports
+abbrev pub sender : EndpointSpan → from.Sender
+sender e = record { address = said (e .address); udp = e .udp; tcp = e .tcp }
+
+abbrev pub senderOf : ℕ → ℕ → Bytes → from.Sender
+senderOf base n s = sender (endpointOf base n s)
 
 -- the third item of `to` is not a field
-abbrev pub recipient : Sender → Recipient
+abbrev pub recipient : EndpointSpan → Recipient
 recipient e = record { address = e .address; udp = e .udp }
 
 abbrev pub recipientOf : ℕ → ℕ → Bytes → Recipient
-recipientOf base n s = recipient (senderOf base n s)
+recipientOf base n s = recipient (endpointOf base n s)
 
 unfoldable pub pingOf : ℕ → Bytes → Ping
 pingOf base s =

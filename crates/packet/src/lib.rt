@@ -4,7 +4,7 @@ ghost use Prim.Native.Nat.{_+_, _≤_, _<_, _^_};
 ghost use lib.ListN.{length, take};
 ghost use Rattle.packet_span.specs.Parts as span;
 ghost use Rattle.packet_fields.specs.Spans.{spanOf};
-ghost use Rattle.packet.specs.Packets.{typeOf, schemaOf, requiredOf, senderOf, pingOf, pongOf, findNodeOf, neighborsOf, enrRequestOf, enrResponseOf, packetOf, readAs, readData};
+ghost use Rattle.packet.specs.Packets.{typeOf, schemaOf, requiredOf, endpointOf, senderOf, pingOf, pongOf, findNodeOf, neighborsOf, enrRequestOf, enrResponseOf, packetOf, readAs, readData};
 ghost use Rattle.packet.specs.Packets as spec;
 use packet_fields::enr_seq_item;
 use packet_fields::item_payload;
@@ -18,8 +18,21 @@ use packet_span::Span;
 use packet_span::bytes_of;
 use packet_span::moved;
 
+// The address in `from`: an empty one is unknown.
+pub enum SenderAddress {
+    Unknown,
+    Known(Span),
+}
+
 // The endpoint `from`.
 pub struct Sender {
+    pub address: SenderAddress,
+    pub udp: u16,
+    pub tcp: u16,
+}
+
+// An endpoint as it stands in a datagram.
+pub struct EndpointSpan {
     pub address: Span,
     pub udp: u16,
     pub tcp: u16,
@@ -98,18 +111,42 @@ pub enum TypeByte {
 }
 
 // The endpoint that is item `n` of the payload `s`, which begins at `base` of the datagram.
-fn sender_at(s: &[u8], base: usize, n: usize) -> Sender
+fn endpoint_at(s: &[u8], base: usize, n: usize) -> EndpointSpan
     requires { ⌜ base + length (now s) < 2 ^ 64 ⌝ }
-    ensures { λ r. ⌜ r ≡ senderOf base n (now (s .entry)) ⌝ }
+    ensures { λ r. ⌜ r ≡ endpointOf base n (now (s .entry)) ⌝ }
 {
     let span = item_payload(s, n);
     let e = bytes_of(s, span);
     let first = base + span.start;
     let address = moved(first, item_payload(e, 0));
-    Sender {
+    EndpointSpan {
         address,
         udp: port_item(e, 1),
         tcp: port_item(e, 2),
+    }
+}
+
+// Document 02 (C-13): "say 'unknown' for 0".
+fn said(address: Span) -> SenderAddress
+    ensures { λ r. ⌜ r ≡ spec.said address ⌝ }
+{
+    if address.len == 0 {
+        return SenderAddress::Unknown;
+    }
+    SenderAddress::Known(address)
+}
+
+fn sender_at(s: &[u8], base: usize, n: usize) -> Sender
+    requires { ⌜ base + length (now s) < 2 ^ 64 ⌝ }
+    ensures { λ r. ⌜ r ≡ senderOf base n (now (s .entry)) ⌝ }
+{
+    let e = endpoint_at(s, base, n);
+    let span = e.address;
+    let address = said(span);
+    Sender {
+        address,
+        udp: e.udp,
+        tcp: e.tcp,
     }
 }
 
@@ -117,7 +154,7 @@ fn recipient_at(s: &[u8], base: usize, n: usize) -> Recipient
     requires { ⌜ base + length (now s) < 2 ^ 64 ⌝ }
     ensures { λ r. ⌜ r ≡ spec.recipientOf base n (now (s .entry)) ⌝ }
 {
-    let e = sender_at(s, base, n);
+    let e = endpoint_at(s, base, n);
     let address = e.address;
     Recipient {
         address,
@@ -216,7 +253,7 @@ fn kinds_of(t: PacketType) -> [Kind; 5]
 {
     let any = Kind::Uint(18446744073709551615);
     match t {
-        PacketType::Ping => [any, Kind::Endpoint, Kind::Endpoint, any, any],
+        PacketType::Ping => [any, Kind::Sender, Kind::Endpoint, any, any],
         PacketType::Pong => [Kind::Endpoint, Kind::Bytes(32), any, any, any],
         PacketType::FindNode => [Kind::Bytes(64), any, any, any, any],
         PacketType::Neighbors => [Kind::Nodes, any, any, any, any],

@@ -10,6 +10,7 @@ use lib.Dec.{leb}
 use borrow.Author.Tests.{leb-true, le-leb, lt-leb}
 use native.Mathlib.Numerals.{add-one}
 use Rattle.node.specs.Nodes.{isAddress, isAddressSize}
+use Rattle.packet_model.proofs.From.{address-range}
 use Rattle.packet_model.specs.Items.{nodeItem}
 use Rattle.octets.specs.Octets.{Bytes}
 use Rattle.node.specs.declared.Node.{Node}
@@ -17,14 +18,13 @@ use Rattle.packet_bodies.specs.declared.NodeList.{NodeList}
 use Rattle.packet_bodies.specs.Parts.{nodesIn, haveAddresses, writableNodes}
 use Rattle.rlp.specs.Encoding.{encode, encodes}
 use Rattle.lists.proofs.Laws.{and-left, and-right}
-use Rattle.packet_bodies.proofs.Sizes.{address-size}
 use Rattle.packet_bodies.proofs.Pieces.{pieces}
 use lib.ListN.{length-append, length-map}
 
 -- the address of a node record is the first `len` of 16 bytes
 module _ (len : ℕ) (address : Bytes) (ok : isAddressSize len ≡ true) (l : length address ≡ 16) where
   pub address-within : len ≤ length address
-  address-within = omega (arith, address-size len ok .1)
+  address-within = omega (arith, address-range len ok)
 
   pub address-length : length (take len address) ≡ len
   address-length = length-take-le len address address-within

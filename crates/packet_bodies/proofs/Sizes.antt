@@ -4,10 +4,8 @@ use mathlib.Core.Path.{_≡_, refl, sym, ap, _∙_}
 use mathlib.Core.Bool.{true}
 use mathlib.Core.List.{List, [], _∷_, _++_, append-assoc}
 use native.Mathlib.Omega.{arith}
-use borrow.Author.Tests.{eqb-true}
-use lib.Dec.{eqb}
 use lib.ListN.{length, length-append}
-use Rattle.node.specs.Nodes.{isAddress, isAddressSize}
+use Rattle.node.specs.Nodes.{isAddress}
 use Rattle.octets.specs.Octets.{Bytes}
 use Rattle.rlp.specs.Numbers.{uintBytes}
 use Rattle.rlp.specs.Encoding.{Item, string, list, header, isPlain, encode, encodes}
@@ -15,9 +13,10 @@ use Rattle.rlp.proofs.Cases.{by-cases}
 use Rattle.rlp.proofs.Numbers.{width-least, length-uint, uint-lead}
 use Rattle.rlp.proofs.Writing.{header-short, header-long, encode-framed, encode-list}
 use Rattle.packet_model.specs.Items.{uint, endpoint, node}
+use Rattle.packet_model.specs.From.{isSenderAddress}
+use Rattle.packet_model.proofs.From.{sender-range, address-sender}
 use Rattle.packet_model.specs.declared.EnrSeq.{EnrSeq}
 use Rattle.packet_model.specs.declared.EnrSeq.the-variants.{Absent, Present}
-use Rattle.lists.proofs.Laws.{or-elim}
 use Rattle.packet_bodies.specs.Parts.{endpointItems, lastItems}
 
 -- a list's items behind a header that says their size
@@ -33,10 +32,10 @@ pub total-size : (is : List Item) → length (encodes is) ≡ total is
 total-size [] = refl
 total-size (i ∷ is) = length-append (encode i) (encodes is) ∙ ap (λ (n : ℕ). length (encode i) + n) (total-size is)
 
--- a string of 2 to 55 bytes takes one more
-pub string-short : (s : Bytes) → 1 < length s → length s < 56 → length (encode (string s)) ≡ 1 + length s
+-- a string of 0 or 2 to 55 bytes takes one more
+pub string-short : (s : Bytes) → (length s ≡ 1 → ⊥) → length s < 56 → length (encode (string s)) ≡ 1 + length s
 string-short s h l =
-    omega (arith, ap length (encode-framed s (λ (o : length s ≡ 1). absurd (omega arith))), length-append (header 0x80 (length s)) s, ap length (header-short 0x80 (length s) l))
+    omega (arith, ap length (encode-framed s (λ (o : length s ≡ 1). absurd (h o))), length-append (header 0x80 (length s)) s, ap length (header-short 0x80 (length s) l))
 
 -- a string of up to 55 bytes takes at most one byte more
 pub string-bound : (s : Bytes) → length s < 56 → length (encode (string s)) ≤ 1 + length s
@@ -62,21 +61,16 @@ string-long s h l =
 pub uint-width : (k n : ℕ) → k ≤ 8 → n < 256 ^ k → length (encode (uint n)) ≤ 1 + k
 uint-width k n le h = let b = uint-bytes k n h in omega (arith, string-bound (uintBytes n) (omega arith))
 
--- an address
-pub address-size : (n : ℕ) → isAddressSize n ≡ true → (1 < n) × (n ≤ 16)
-address-size n h =
-    or-elim (eqb n 4) (eqb n 16) h (λ e. omega (arith, eqb-true n 4 e)) (λ e. omega (arith, eqb-true n 16 e))
-
 -- the items of an endpoint, by the sizes of its ports
-module _ (a : Bytes) (u t : ℕ) (ok : isAddress a ≡ true) where
+module _ (a : Bytes) (u t : ℕ) (ok : isSenderAddress a ≡ true) where
   pub fields-size : length (encodes (endpointItems a u t)) ≡ 1 + length a + length (encode (uint u)) + length (encode (uint t))
   fields-size =
-      let h = address-size (length a) ok in
+      let h = sender-range (length a) ok in
       omega (arith, total-size (endpointItems a u t), string-short a (h .0) (omega (arith, h .1)))
 
   module _ (hu : u < 256 ^ 2) (ht : t < 256 ^ 2) where
     pub fields-bound : length (encodes (endpointItems a u t)) ≤ 23
-    fields-bound = omega (arith, fields-size, address-size (length a) ok, uint-width 2 u (omega arith) hu, uint-width 2 t (omega arith) ht)
+    fields-bound = omega (arith, fields-size, sender-range (length a) ok .1, uint-width 2 u (omega arith) hu, uint-width 2 t (omega arith) ht)
 
     pub endpoint-size : length (encode (endpoint a u t)) ≡ 1 + length (encodes (endpointItems a u t))
     endpoint-size =
@@ -98,7 +92,7 @@ module _ (a : Bytes) (u t : ℕ) (key : Bytes) (ok : isAddress a ≡ true) (k : 
   pub node-size : u < 256 ^ 2 → t < 256 ^ 2 → length (encode (node a u t key)) ≡ 68 + length (encodes (endpointItems a u t))
   node-size hu ht =
       let p : Bytes = encodes (keyed a u t key) in
-      let b = fields-bound a u t ok hu ht in
+      let b = fields-bound a u t (address-sender a ok) hu ht in
       omega (arith, ap length (framed (length p) p refl), length-append (header 0xc0 (length p)) p, keyed-size, header-two 0xc0 (length p) (omega (arith, keyed-size)) (omega (arith, keyed-size)))
 
 pub encodes-append : (is js : List Item) → encodes (is ++ js) ≡ encodes is ++ encodes js

@@ -10,13 +10,14 @@ use Rattle.rlp.specs.Reading.{head}
 use Rattle.rlp.specs.declared.Header.{Header}
 use Rattle.rlp.specs.declared.Header.the-variants as rlp
 use Rattle.packet_model.specs.Items.{endpoint, pingItems, pongItems, findNodeItems, neighborsItems, enrRequestItems, enrResponseItems, enrSeqItems}
+use Rattle.packet_model.specs.From.{isSenderAddress}
 use Rattle.packet_model.specs.declared.EnrSeq.{EnrSeq}
 use Rattle.packet_bodies.specs.Parts.{body, nodeItems}
 use Rattle.packet_bodies.specs.declared.NodeList.{NodeList}
 
--- 1 Ping: version 4, the third item of `to` 0
+-- 1 Ping: version 4, the third item of `to` 0; the address in `from` is empty where it is unknown
 abbrev pub canPing : Bytes → Bytes → Bool
-canPing from to = isAddress from && isAddress to
+canPing from to = isSenderAddress from && isAddress to
 
 abbrev pub pingBody : Bytes → ℕ → ℕ → Bytes → ℕ → ℕ → EnrSeq → Bytes
 pingBody from fromUdp fromTcp to toUdp expiration e =

@@ -8,6 +8,7 @@ ghost use Rattle.node.specs.Nodes.{isAddress, isAddressSize};
 ghost use Rattle.rlp.specs.Encoding.{header, encode, encodes};
 ghost use Rattle.octets.specs.Octets.{store};
 ghost use Rattle.packet_model.specs.Items.{endpoint, node, nodeItem};
+ghost use Rattle.packet_model.specs.From.{isSenderAddress};
 ghost use Rattle.packet_bodies.specs.Parts.{endpointItems, lastItems, nodeItems, writableNodes};
 use node::Node;
 use packet_model::EnrSeq;
@@ -39,9 +40,9 @@ pub fn put_start(buf: &mut [u8], kind: u8, size: usize) -> usize
     rlp_write::write_header(buf, 1, 192, size)
 }
 
-// The size of the items of an endpoint.
+// The size of the items of an endpoint, whose address may be empty.
 fn fields_size(address: &[u8], udp: u16, tcp: u16) -> usize
-    requires { ⌜ isAddress (now address) ≡ true ⌝ }
+    requires { ⌜ isSenderAddress (now address) ≡ true ⌝ }
     ensures { λ r. ⌜ (r ≡ length (encodes (endpointItems (now (address .entry)) udp tcp))) × (r ≤ 23) ⌝ }
 {
     1 + address.len() + rlp_write::uint_size(udp as u64) + rlp_write::uint_size(tcp as u64)
@@ -60,7 +61,7 @@ fn put_fields(buf: &mut [u8], at: usize, address: &[u8], udp: u16, tcp: u16) -> 
 
 // The size of an endpoint.
 pub fn endpoint_size(address: &[u8], udp: u16, tcp: u16) -> usize
-    requires { ⌜ isAddress (now address) ≡ true ⌝ }
+    requires { ⌜ isSenderAddress (now address) ≡ true ⌝ }
     ensures { λ r. ⌜ (r ≡ length (encode (endpoint (now (address .entry)) udp tcp))) × (r ≤ 24) ⌝ }
 {
     1 + fields_size(address, udp, tcp)
@@ -68,7 +69,7 @@ pub fn endpoint_size(address: &[u8], udp: u16, tcp: u16) -> usize
 
 // Writes an endpoint.
 pub fn put_endpoint(buf: &mut [u8], at: usize, address: &[u8], udp: u16, tcp: u16) -> usize
-    requires { ⌜ (isAddress (now address) ≡ true) × (at + length (encode (endpoint (now address) udp tcp)) ≤ length (now buf)) ⌝ }
+    requires { ⌜ (isSenderAddress (now address) ≡ true) × (at + length (encode (endpoint (now address) udp tcp)) ≤ length (now buf)) ⌝ }
     ensures next { λ r. ⌜ r ≡ at + length (encode (endpoint (now (address .entry)) udp tcp)) ⌝ }
     ensures bytes { λ _. ⌜ now (buf .exit) ≡ store (now (buf .entry)) at (encode (endpoint (now (address .entry)) udp tcp)) ⌝ }
 {

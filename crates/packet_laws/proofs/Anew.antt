@@ -13,6 +13,7 @@ use Rattle.keccak.specs.Sponge.{keccak256}
 use Rattle.lists.proofs.Laws.{nil}
 use Rattle.rlp.specs.Encoding.{Item, string, list, encode}
 use Rattle.packet_model.specs.Items.{dataOf, uint, endpoint, pingItems, pongItems, findNodeItems, neighborsItems, enrRequestItems, enrResponseItems, enrSeqItems, nodeItem}
+use Rattle.packet_model.specs.From.{fromBytes}
 use Rattle.packet_model.specs.declared.EnrSeq.{EnrSeq}
 use Rattle.packet_model.specs.declared.EnrSeq.the-variants.{Absent, Present}
 use Rattle.packet_schema.proofs.Torn.{slices-begun}
@@ -74,7 +75,7 @@ module _ (g : Bytes) (sl : Slice g) (long : 98 ≤ length g) where
   written : (f : Fields) → EncodedIn g f → NothingAfter (typeOfFields f) (drop 98 g) → FormOf (listIn (drop 98 g)) f → Holds f
   written (ping f) h n form =
       let e : PingEncoded (drop 98 g) f = h .begins in
-      let is : List Item = pingItems (f .version) (endpoint (f .from-address) (f .from-udp) (f .from-tcp)) (endpoint (f .to-address) (f .to-udp) (e .to-tcp)) (f .expiration) (trailing (f .enr-seq) (e .more)) in
+      let is : List Item = pingItems (f .version) (endpoint (fromBytes (f .from-address)) (f .from-udp) (f .from-tcp)) (endpoint (f .to-address) (f .to-udp) (e .to-tcp)) (f .expiration) (trailing (f .enr-seq) (e .more)) in
       let zero : e .to-tcp ≡ 0 = sym (tcp-is g sl long is (e .begins) 2 refl (e .to-good)) ∙ form .1 in
       let k : length is ≤ 5 = known-items (drop 98 g) (slice-drop 98 g sl) is (e .begins) type.Ping n in
       let last = trailing-is (f .enr-seq) (e .more) (omega arith) in (
@@ -86,7 +87,7 @@ module _ (g : Bytes) (sl : Slice g) (long : 98 ≤ length g) where
           enr-seq = e .enr-seq-fits;
         },
         same-body 1 (h .type-byte) (data-all (drop 98 g) (slice-drop 98 g sl) is (e .begins) type.Ping n)
-            (λ i. pingItems (form .0 i) (endpoint (f .from-address) (f .from-udp) (f .from-tcp)) (endpoint (f .to-address) (f .to-udp) (zero i)) (f .expiration) (last i)),
+            (λ i. pingItems (form .0 i) (endpoint (fromBytes (f .from-address)) (f .from-udp) (f .from-tcp)) (endpoint (f .to-address) (f .to-udp) (zero i)) (f .expiration) (last i)),
       )
   written (pong f) h n form =
       let e : PongEncoded (drop 98 g) f = h .begins in

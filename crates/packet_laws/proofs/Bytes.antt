@@ -17,6 +17,7 @@ use Rattle.rlp.proofs.Numbers.{uint-bound}
 use Rattle.rlp.proofs.Writing.{header-short, header-long}
 use Rattle.rlp.proofs.Encoding.{encode-is, small-first, small-rest}
 use Rattle.packet_model.specs.Items.{dataOf, uint, endpoint, enrSeqItems, nodeItem}
+use Rattle.packet_model.specs.From.{fromBytes}
 use Rattle.packet_model.specs.declared.EnrSeq.{EnrSeq}
 use Rattle.packet_model.specs.declared.EnrSeq.the-variants.{Absent, Present}
 use Rattle.packet.specs.Packets.{byteOf}
@@ -95,7 +96,7 @@ items-bytes : (f : Fields) → Writable f → AreBytes f → OfBytes (writtenIte
 items-bytes (ping f) w b = (
   (λ _. uint-is-bytes 4),
   (
-    endpoint-bytes (f .from-address) (f .from-udp) (f .from-tcp) (b .0),
+    endpoint-bytes (fromBytes (f .from-address)) (f .from-udp) (f .from-tcp) (b .0),
     (endpoint-bytes (f .to-address) (f .to-udp) 0 (b .1), last-bytes (f .expiration) (f .enr-seq)),
   ),
 )

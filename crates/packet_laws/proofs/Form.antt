@@ -12,7 +12,7 @@ use Rattle.rlp.proofs.Encoding.{read-item, encode-length, count-encodes}
 use Rattle.packet_model.specs.Items.{dataOf, endpoint}
 use Rattle.packet_schema.specs.Shapes.{IsEndpoint, Begins}
 use Rattle.packet_schema.proofs.Torn.{small-begun}
-use Rattle.packet.specs.Packets.{schemaOf, senderOf}
+use Rattle.packet.specs.Packets.{schemaOf, endpointOf}
 use Rattle.packet.specs.declared.PacketType.{PacketType}
 use Rattle.packet.proofs.Values.{data-payload}
 use Rattle.packet.proofs.Inversion.{tcp-at}
@@ -49,5 +49,5 @@ module _ (d : Bytes) (sl : Slice d) (is : List Item) (b : Begins d is) where
 
 -- the TCP port of an endpoint that is item n
 pub tcp-is : (g : Bytes) (sl : Slice g) (long : 98 ≤ length g) (is : List Item) → Begins (drop 98 g) is → (n : ℕ) {a : Bytes} {u t : ℕ} → getD is n (string []) ≡ endpoint a u t → IsEndpoint a u t → tcpOf n (listIn (drop 98 g)) ≡ t
-unfolding senderOf
-tcp-is g sl long is b n e good = tcp-at g 98 sl long is b n e good
+unfolding endpointOf
+tcp-is g sl long is b n {a} {u} {t} e good = tcp-at g 98 sl long is b n a u t e (good .tcp-fits)

@@ -6,6 +6,7 @@ use native.Mathlib.Omega.{arith}
 use lib.ListN.{length}
 use Rattle.rlp.specs.Encoding.{Item}
 use Rattle.packet_model.specs.Items.{endpoint, pingItems, pongItems, findNodeItems, neighborsItems, enrRequestItems, enrResponseItems, enrSeqItems, nodeItem}
+use Rattle.packet_model.specs.From.{fromBytes}
 use Rattle.packet_model.specs.declared.EnrSeq.{EnrSeq}
 use Rattle.packet_model.specs.declared.EnrSeq.the-variants.{Absent, Present}
 use Rattle.packet.specs.Packets.{byteOf, schemaOf}
@@ -16,7 +17,7 @@ use Rattle.packet_laws.specs.RoundTrip.{bodyOf}
 
 abbrev pub writtenItems : Fields → List Item
 writtenItems (ping f) =
-    pingItems 4 (endpoint (f .from-address) (f .from-udp) (f .from-tcp)) (endpoint (f .to-address) (f .to-udp) 0) (f .expiration) (enrSeqItems (f .enr-seq))
+    pingItems 4 (endpoint (fromBytes (f .from-address)) (f .from-udp) (f .from-tcp)) (endpoint (f .to-address) (f .to-udp) 0) (f .expiration) (enrSeqItems (f .enr-seq))
 writtenItems (pong f) = pongItems (endpoint (f .to-address) (f .to-udp) 0) (f .ping-hash) (f .expiration) (enrSeqItems (f .enr-seq))
 writtenItems (findNode f) = findNodeItems (f .target) (f .expiration) []
 writtenItems (neighbors f) = neighborsItems (map nodeItem (f .nodes)) (f .expiration) []

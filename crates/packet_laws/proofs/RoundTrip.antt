@@ -16,6 +16,7 @@ use Rattle.rlp.specs.Encoding.{Item}
 use Rattle.packet_model.specs.Items.{dataOf, endpoint, pingItems, pongItems, enrSeqItems}
 use Rattle.packet_model.specs.declared.EnrSeq.{EnrSeq}
 use Rattle.packet_model.specs.declared.EnrSeq.the-variants.{Absent, Present}
+use Rattle.packet_model.specs.From.{fromBytes}
 use Rattle.packet_schema.specs.Shapes.{Begins}
 use Rattle.packet.specs.Packets.{byteOf, schemaOf}
 use Rattle.packet.specs.Accepted.{trailing, Fields, ping, pong, findNode, neighbors, enrRequest, enrResponse, typeOfFields}
@@ -110,7 +111,7 @@ module _ (s : Bytes) (sized : length s ≡ 65) where
   encoded : (f : Fields) → Writable f → EncodedIn (datagram s (bodyOf f)) f
   encoded (ping f) w =
       let is : List Item = writtenItems (ping f) in
-      let from : Item = endpoint (f .from-address) (f .from-udp) (f .from-tcp) in
+      let from : Item = endpoint (fromBytes (f .from-address)) (f .from-udp) (f .from-tcp) in
       let to : Item = endpoint (f .to-address) (f .to-udp) 0 in
       let named : is ≡ pingItems (f .version) from to (f .expiration) (trailing (f .enr-seq) []) =
       λ i. pingItems (sym (w .version) i) from to (f .expiration) (sym (trailing-nil (f .enr-seq)) i) in

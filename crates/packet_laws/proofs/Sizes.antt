@@ -15,12 +15,14 @@ use Rattle.rlp.specs.Encoding.{Item, list, header, encode, encodes}
 use Rattle.rlp.proofs.Numbers.{length-uint, width-more, width-least}
 use Rattle.rlp.proofs.Writing.{header-short, header-long, encode-list, uint-size-small, uint-size-large}
 use Rattle.packet_model.specs.Items.{uint, endpoint, node, pingItems, pongItems, findNodeItems, neighborsItems, enrRequestItems, enrResponseItems, enrSeqItems, nodeItem}
+use Rattle.packet_model.specs.From.{isSenderAddress, fromBytes}
+use Rattle.packet_model.proofs.From.{address-range, address-sender, from-sender}
 use Rattle.packet_model.specs.declared.EnrSeq.{EnrSeq}
 use Rattle.packet_model.specs.declared.EnrSeq.the-variants.{Absent, Present}
 use Rattle.packet.specs.Accepted.{SeqFits, NodeGood, NodesGood, Fields, ping, pong, findNode, neighbors, enrRequest, enrResponse}
 use Rattle.packet_bodies.specs.Parts.{body}
 use Rattle.lists.proofs.Laws.{and-left, and-right}
-use Rattle.packet_bodies.proofs.Sizes.{total-size, uint-bytes, string-short, string-long, uint-width, address-size, fields-size, fields-bound, endpoint-size, node-size}
+use Rattle.packet_bodies.proofs.Sizes.{total-size, uint-bytes, string-short, string-long, uint-width, fields-size, fields-bound, endpoint-size, node-size}
 use Rattle.packet_bodies.specs.Writers.{isRecord, content, canPing, canPong, neighborsBody}
 use Rattle.packet_bodies.proofs.Records.{record-bound, content-is}
 use Rattle.packet_join.specs.Join.{datagram}
@@ -56,12 +58,13 @@ last-bound x Absent hx h = omega (arith, total-size (uint x ∷ []), uint-width 
 last-bound x (Present n) hx h =
     omega (arith, total-size (uint x ∷ uint n ∷ []), uint-width 8 x (omega arith) hx, uint-width 8 n (omega arith) h)
 
-endpoint-bound : (a : Bytes) (u t : ℕ) → isAddress a ≡ true → u < 2 ^ 16 → t < 2 ^ 16 → length (encode (endpoint a u t)) ≤ 24
+endpoint-bound : (a : Bytes) (u t : ℕ) → isSenderAddress a ≡ true → u < 2 ^ 16 → t < 2 ^ 16 → length (encode (endpoint a u t)) ≤ 24
 endpoint-bound a u t ok hu ht = omega (arith, endpoint-size a u t ok hu ht, fields-bound a u t ok hu ht)
 
 to-bound : (a : Bytes) (u : ℕ) → isAddress a ≡ true → u < 2 ^ 16 → length (encode (endpoint a u 0)) ≤ 22
 to-bound a u ok hu =
-    omega (arith, endpoint-size a u 0 ok hu (omega arith), fields-size a u 0 ok, address-size (length a) ok, uint-width 2 u (omega arith) hu, uint-size-small 0 (omega arith))
+    let s = address-sender a ok in
+    omega (arith, endpoint-size a u 0 s hu (omega arith), fields-size a u 0 s, address-range (length a) ok, uint-width 2 u (omega arith) hu, uint-size-small 0 (omega arith))
 
 node-bound : (n : Node) → NodeGood n → length (encode (nodeItem n)) ≤ 91
 node-bound n h =
@@ -69,7 +72,7 @@ node-bound n h =
     let e = n .endpoint in
     let g = h .good in
     let z = node-size a (e .udp) (e .tcp) (n .key) (g .sized) (h .key-sized) (omega (arith, g .udp-fits)) (omega (arith, g .tcp-fits)) in
-    omega (arith, z, fields-bound a (e .udp) (e .tcp) (g .sized) (omega (arith, g .udp-fits)) (omega (arith, g .tcp-fits)))
+    omega (arith, z, fields-bound a (e .udp) (e .tcp) (address-sender a (g .sized)) (omega (arith, g .udp-fits)) (omega (arith, g .tcp-fits)))
 
 nodes-bound : (ns : List Node) → NodesGood ns → length (encodes (map nodeItem ns)) ≤ 91 * length ns
 nodes-bound [] h = omega arith
@@ -88,8 +91,8 @@ ping-bound f fu ft t tu x e ok hfu hft htu hx he =
     let b : length (encodes items) ≤ 65 = omega (
       arith,
       uint-size-small 4 (omega arith),
-      endpoint-bound f fu ft (and-left (isAddress f) (isAddress t) ok) hfu hft,
-      to-bound t tu (and-right (isAddress f) (isAddress t) ok) htu,
+      endpoint-bound f fu ft (and-left (isSenderAddress f) (isAddress t) ok) hfu hft,
+      to-bound t tu (and-right (isSenderAddress f) (isAddress t) ok) htu,
       last-bound x e hx he,
     ) in
     omega (arith, body-bound 1 1 items (omega arith))
@@ -104,7 +107,7 @@ pong-bound t tu hash x e ok htu hx he =
     let b : length (encodes items) ≤ 73 = omega (
       arith,
       to-bound t tu (and-left (isAddress t) (eqb (length hash) 32) ok) htu,
-      string-short hash (omega arith) (omega arith),
+      string-short hash (λ o. omega arith) (omega arith),
       last-bound x e hx he,
     ) in
     omega (arith, body-bound 1 2 items (omega arith))
@@ -130,7 +133,7 @@ enr-request-bound x hx =
 pub enr-response-bound : (hash r : Bytes) → Slice r → length hash ≡ 32 → isRecord r ≡ true → length (body 6 (enrResponseItems hash (content r) [])) ≤ 337
 enr-response-bound hash r s h ok =
     let items : List Item = enrResponseItems hash (content r) [] in
-    let b : length (encodes items) ≤ 333 = omega (arith, total-size items, string-short hash (omega arith) (omega arith), ap length (content-is r s ok), record-bound r ok) in
+    let b : length (encodes items) ≤ 333 = omega (arith, total-size items, string-short hash (λ o. omega arith) (omega arith), ap length (content-is r s ok), record-bound r ok) in
     omega (arith, body-bound 2 6 items (omega arith))
 
 pub both-true : {a b : Bool} → a ≡ true → b ≡ true → (a && b) ≡ true
@@ -140,8 +143,8 @@ pub size-of : (f : Fields) → Writable f → length (bodyOf f) ≤ 1108
 size-of (ping f) w =
     omega (
       arith,
-      ping-bound (f .from-address) (f .from-udp) (f .from-tcp) (f .to-address) (f .to-udp) (f .expiration) (f .enr-seq)
-          (both-true (w .from .sized) (w .to .sized)) (omega (arith, w .from .udp-fits)) (omega (arith, w .from .tcp-fits)) (omega (arith, w .to .udp-fits)) (w .expiration) (w .enr-seq),
+      ping-bound (fromBytes (f .from-address)) (f .from-udp) (f .from-tcp) (f .to-address) (f .to-udp) (f .expiration) (f .enr-seq)
+          (both-true (from-sender (f .from-address) (w .from .sized)) (w .to .sized)) (omega (arith, w .from .udp-fits)) (omega (arith, w .from .tcp-fits)) (omega (arith, w .to .udp-fits)) (w .expiration) (w .enr-seq),
     )
 size-of (pong f) w =
     omega (
@@ -206,7 +209,7 @@ reply-sizes =
       thirteen = λ signature ns x hs a hn hx. omega (arith, reply-size signature ns x 13 hs a hn (omega arith) (omega arith) hx);
       node = λ a u t key la hu lu ht lt lk.
           let ok : isAddress a ≡ true = ap isAddressSize la in
-          omega (arith, node-size a u t key ok lk lu lt, fields-size a u t ok, two-byte u hu lu, two-byte t ht lt);
+          omega (arith, node-size a u t key ok lk lu lt, fields-size a u t (address-sender a ok), two-byte u hu lu, two-byte t ht lt);
       expiration = λ x h l. omega (arith, uint-size-large x l (omega arith), length-uint x, width-more 7 x h, width-least 8 x l);
       node-most = λ n f ok. omega (arith, node-bound (padNode n) (good n f ok), ap (λ (i : Item). length (encode i)) (same-item n f ok));
       expiration-most = expiration-bound;

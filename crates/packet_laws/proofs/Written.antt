@@ -12,12 +12,14 @@ use Rattle.node.specs.declared.Node.{Node}
 use Rattle.node.specs.Nodes.{addressOf, isAddress, isAddressSize}
 use Rattle.rlp.specs.Encoding.{Item}
 use Rattle.packet_model.specs.Items.{node, neighborsItems, nodeItem}
+use Rattle.packet_model.specs.From.{isSenderAddress, fromSaid}
+use Rattle.packet_model.proofs.From.{address-range, said-bytes, said-good}
 use Rattle.packet_fields.specs.Spans.{padded}
 use Rattle.packet.specs.Accepted.{NodeGood, NodesGood, Fields}
 use Rattle.packet.proofs.Nodes.{padded-front}
 use Rattle.packet_bodies.specs.Parts.{body, nodesIn, haveAddresses}
+use Rattle.packet_bodies.specs.Writers.{pingBody}
 use Rattle.lists.proofs.Laws.{and-left, and-right}
-use Rattle.packet_bodies.proofs.Sizes.{address-size}
 use Rattle.packet_bodies.proofs.Nodes.{few, addresses, address-length}
 use Rattle.packet_laws.specs.Bodies.{NodeFits, NodesFit, padNode, WrittenBody}
 use Rattle.packet_laws.specs.Bodies as written
@@ -30,7 +32,7 @@ module _ (n : Node) (f : NodeFits n) (ok : isAddressSize (n .endpoint .len) ≡ 
   same-address : addressOf (padNode n .endpoint) ≡ addressOf (n .endpoint)
   unfolding padNode
   same-address =
-      ap (λ (k : ℕ). take k (padded 16 (addressOf (n .endpoint)))) (sym size) ∙ padded-front 16 (addressOf (n .endpoint)) (omega (arith, size, address-size (n .endpoint .len) ok))
+      ap (λ (k : ℕ). take k (padded 16 (addressOf (n .endpoint)))) (sym size) ∙ padded-front 16 (addressOf (n .endpoint)) (omega (arith, size, address-range (n .endpoint .len) ok))
 
   pub good : NodeGood (padNode n)
   unfolding padNode
@@ -71,12 +73,12 @@ wrote (written.ping f fu ft t tu x e ok hfu hft htu hx he) =
       can =
           record {
             version = refl;
-            from = record { sized = and-left (isAddress f) (isAddress t) ok; udp-fits = omega arith; tcp-fits = omega arith };
-            to = record { sized = and-right (isAddress f) (isAddress t) ok; udp-fits = omega arith; tcp-fits = omega arith };
+            from = record { sized = said-good f (and-left (isSenderAddress f) (isAddress t) ok); udp-fits = omega arith; tcp-fits = omega arith };
+            to = record { sized = and-right (isSenderAddress f) (isAddress t) ok; udp-fits = omega arith; tcp-fits = omega arith };
             expiration = hx;
             enr-seq = he;
           };
-      is = refl;
+      is = ap (λ (a : Bytes). pingBody a fu ft t tu x e) (said-bytes f);
     }
 wrote (written.pong t tu hash x e ok htu hx he) =
     record {

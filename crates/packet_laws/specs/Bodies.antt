@@ -8,6 +8,7 @@ use Rattle.octets.specs.Octets.{Bytes, Slice}
 use Rattle.node.specs.declared.Node.{Node}
 use Rattle.node.specs.Nodes.{addressOf}
 use Rattle.packet_model.specs.declared.EnrSeq.{EnrSeq}
+use Rattle.packet_model.specs.From as sender
 use Rattle.packet_fields.specs.Spans.{padded}
 use Rattle.packet.specs.Accepted.{SeqFits, Fields}
 use Rattle.packet.specs.Accepted as fields
@@ -34,11 +35,11 @@ padNode n =
       endpoint = record { len = n .endpoint .len; address = padded 16 (addressOf (n .endpoint)); udp = n .endpoint .udp; tcp = n .endpoint .tcp };
     }
 
--- the fields of what each writer takes; a Ping is of version 4
+-- the fields of what each writer takes; a Ping is of version 4, and an empty `from` is unknown
 abbrev pub pingWritten : Bytes → ℕ → ℕ → Bytes → ℕ → ℕ → EnrSeq → Fields
 pingWritten from fromUdp fromTcp to toUdp x e =
     fields.ping
-    (record { version = 4; from-address = from; from-udp = fromUdp; from-tcp = fromTcp; to-address = to; to-udp = toUdp; expiration = x; enr-seq = e })
+    (record { version = 4; from-address = sender.fromSaid from; from-udp = fromUdp; from-tcp = fromTcp; to-address = to; to-udp = toUdp; expiration = x; enr-seq = e })
 
 abbrev pub pongWritten : Bytes → ℕ → Bytes → ℕ → EnrSeq → Fields
 pongWritten to toUdp hash x e = fields.pong (record { to-address = to; to-udp = toUdp; ping-hash = hash; expiration = x; enr-seq = e })

@@ -8,7 +8,8 @@ use Rattle.octets.specs.Octets.{Bytes, IsBytes, Slice}
 use Rattle.node.specs.declared.Node.{Node}
 use Rattle.rlp.specs.Reading.{head, extent, count}
 use Rattle.packet_model.specs.Items.{neighborsItems, nodeItem}
-use Rattle.packet_schema.specs.Shapes.{IsEndpoint}
+use Rattle.packet_model.specs.From as sender
+use Rattle.packet_schema.specs.Shapes.{IsEndpoint, IsSender}
 use Rattle.packet_span.specs.Parts.{bytesOf}
 use Rattle.packet_fields.specs.Spans.{spanOf, portItem}
 use Rattle.packet.specs.Packets.{schemaOf}
@@ -23,7 +24,7 @@ use Rattle.packet_laws.specs.Bodies.{WrittenBody}
 
 -- what the writers write of these fields
 abbrev pub bodyOf : Fields → Bytes
-bodyOf (ping f) = pingBody (f .from-address) (f .from-udp) (f .from-tcp) (f .to-address) (f .to-udp) (f .expiration) (f .enr-seq)
+bodyOf (ping f) = pingBody (sender.fromBytes (f .from-address)) (f .from-udp) (f .from-tcp) (f .to-address) (f .to-udp) (f .expiration) (f .enr-seq)
 bodyOf (pong f) = pongBody (f .to-address) (f .to-udp) (f .ping-hash) (f .expiration) (f .enr-seq)
 bodyOf (findNode f) = findNodeBody (f .target) (f .expiration)
 bodyOf (neighbors f) = body 4 (neighborsItems (map nodeItem (f .nodes)) (f .expiration) [])
@@ -33,7 +34,7 @@ bodyOf (enrResponse f) = enrResponseBody (f .request-hash) (f .enr)
 -- the fields that the writers take: of Ping those with version 4, of Neighbors at most 12 nodes
 pub record PingWritable (f : PingFields) : Type 0 where
   pub version : f .version ≡ 4
-  pub from : IsEndpoint (f .from-address) (f .from-udp) (f .from-tcp)
+  pub from : IsSender (f .from-address) (f .from-udp) (f .from-tcp)
   pub to : IsEndpoint (f .to-address) (f .to-udp) 0
   pub expiration : f .expiration < 2 ^ 64
   pub enr-seq : SeqFits (f .enr-seq)
@@ -71,7 +72,7 @@ NodesAreBytes [] = Unit {0}
 NodesAreBytes (n ∷ ns) = (IsBytes (n .key) × IsBytes (n .endpoint .address)) × NodesAreBytes ns
 
 abbrev pub AreBytes : Fields → Type 0
-AreBytes (ping f) = IsBytes (f .from-address) × IsBytes (f .to-address)
+AreBytes (ping f) = IsBytes (sender.fromBytes (f .from-address)) × IsBytes (f .to-address)
 AreBytes (pong f) = IsBytes (f .to-address) × IsBytes (f .ping-hash)
 AreBytes (findNode f) = IsBytes (f .target)
 AreBytes (neighbors f) = NodesAreBytes (f .nodes)

@@ -14,13 +14,15 @@ use Rattle.rlp.proofs.Encoding.{uint-read, uint-sound, whole-encodes, small-fir
 use Rattle.rlp.specs.declared.Uint as rlp-uint
 use Rattle.rlp.specs.declared.Uint.the-variants as value
 use Rattle.packet_model.specs.Items.{uint, endpoint, node}
+use Rattle.packet_model.specs.From.{From, fromSaid, fromBytes, isFrom}
+use Rattle.packet_model.proofs.From.{said-bytes, said-good, from-sender}
 use Rattle.packet_schema.specs.Payload.{itemsOf}
 use Rattle.packet_schema.specs.Kinds.{worst, goodIf, atMost, isLeaf, leaves, tuple, isRecordItem}
 use Rattle.packet_schema.specs.Kinds as schema
 use Rattle.packet_schema.specs.Schema.{eachNode, nodes, field, fields}
-use Rattle.packet_schema.specs.Shapes.{IsEndpoint, IsUint, IsString, IsAddressItem, IsEndpointItem, IsNode, AllNodes, IsNodes, IsRecord, Shape, Shapes}
+use Rattle.packet_schema.specs.Shapes.{IsEndpoint, IsSender, IsUint, IsString, IsAddressItem, IsSenderAddress, IsEndpointItem, IsSenderItem, IsNode, AllNodes, IsNodes, IsRecord, Shape, Shapes}
 use Rattle.packet_schema.specs.declared.Kind.{Kind}
-use Rattle.packet_schema.specs.declared.Kind.the-variants.{Uint, Bytes, Address, Endpoint, Nodes, Record}
+use Rattle.packet_schema.specs.declared.Kind.the-variants.{Uint, Bytes, Address, SenderAddress, Endpoint, Sender, Nodes, Record}
 use Rattle.packet_schema.specs.declared.Verdict.{Verdict}
 use Rattle.packet_schema.specs.declared.Verdict.the-variants.{Good, Broken, Wrong}
 use Rattle.packet_schema.proofs.Payload.{items-encodes, encodes-items, Slices, slices-items}
@@ -75,7 +77,16 @@ pub address-shape : (i : Item) → isLeaf Address i ≡ true → IsAddressItem i
 address-shape (string s) e = record { bytes = s; is = refl; sized = e }
 address-shape (list p) e = absurd (false≢true e)
 
+pub sender-address-shape : (i : Item) → isLeaf SenderAddress i ≡ true → IsSenderAddress i
+sender-address-shape (string s) e = record { from = fromSaid s; is = ap string (sym (said-bytes s)); sized = said-good s e }
+sender-address-shape (list p) e = absurd (false≢true e)
+
 -- ---- endpoints and nodes
+
+module _ (f : From) (u t : ℕ) (g : IsSender f u t) where
+  pub sender-leaves : leaves schema.sender (string (fromBytes f) ∷ uint u ∷ uint t ∷ []) ≡ true
+  sender-leaves =
+      both-true (from-sender f (g .sized)) (both-true (shape-uint 65535 u (omega arith) (g .udp-fits)) (both-true (shape-uint 65535 t (omega arith) (g .tcp-fits)) refl))
 
 module _ (a : octets.Bytes) (u t : ℕ) (g : IsEndpoint a u t) where
   pub endpoint-leaves : leaves schema.endpoint (string a ∷ uint u ∷ uint t ∷ []) ≡ true
@@ -86,30 +97,39 @@ module _ (a : octets.Bytes) (u t : ℕ) (g : IsEndpoint a u t) where
   node-leaves k h =
       both-true (g .sized) (both-true (shape-uint 65535 u (omega arith) (g .udp-fits)) (both-true (shape-uint 65535 t (omega arith) (g .tcp-fits)) (both-true (eq-eqb (length k) 64 h) refl)))
 
--- the first three items of an endpoint or a node
-abbrev Three : List Item → (List Item → Type 0) → Type 0
-Three is P =
-    (a : octets.Bytes) × (u : ℕ) × (t : ℕ) × (more : List Item) × (is ≡ string a ∷ uint u ∷ uint t ∷ more) × IsEndpoint a u t × P more
+-- the first three items of an endpoint or a node: one of the kind `first`, and two ports
+pub record Three (first : Kind) (items : List Item) (kinds : List Kind) : Type 0 where
+  pub item : Item
+  pub udp : ℕ
+  pub tcp : ℕ
+  pub more : List Item
+  pub is : items ≡ item ∷ uint udp ∷ uint tcp ∷ more
+  pub leaf : isLeaf first item ≡ true
+  pub udp-fits : udp ≤ 65535
+  pub tcp-fits : tcp ≤ 65535
+  pub rest : leaves kinds more ≡ true
 
-three : (kinds : List Kind) (is : List Item) → Slices is → leaves (Address ∷ Uint 65535 ∷ Uint 65535 ∷ kinds) is ≡ true → Three is (λ more. leaves kinds more ≡ true)
-three kinds [] sl e = absurd (false≢true e)
-three kinds (i ∷ []) sl e = absurd (false≢true (and-true (isLeaf Address i) false e .1))
-three kinds (i ∷ j ∷ []) sl e = absurd (false≢true (and-true (isLeaf (Uint 65535) j) false (and-true (isLeaf Address i) _ e .1) .1))
-three kinds (i ∷ j ∷ k ∷ more) sl e =
-    let ei = and-true (isLeaf Address i) _ e in
+three : (first : Kind) (kinds : List Kind) (is : List Item) → Slices is → leaves (first ∷ Uint 65535 ∷ Uint 65535 ∷ kinds) is ≡ true → Three first is kinds
+three first kinds [] sl e = absurd (false≢true e)
+three first kinds (i ∷ []) sl e = absurd (false≢true (and-true (isLeaf first i) false e .1))
+three first kinds (i ∷ j ∷ []) sl e = absurd (false≢true (and-true (isLeaf (Uint 65535) j) false (and-true (isLeaf first i) _ e .1) .1))
+three first kinds (i ∷ j ∷ k ∷ more) sl e =
+    let ei = and-true (isLeaf first i) _ e in
     let ej = and-true (isLeaf (Uint 65535) j) _ (ei .1) in
     let ek = and-true (isLeaf (Uint 65535) k) _ (ej .1) in
-    let a = address-shape i (ei .0) in
     let u = uint-shape 65535 j (sl .1 .0) (ej .0) in
-    let t = uint-shape 65535 k (sl .1 .1 .0) (ek .0) in (
-      a .bytes,
-      u .value,
-      t .value,
-      more,
-      (λ x. a .is x ∷ u .is x ∷ t .is x ∷ more),
-      record { sized = a .sized; udp-fits = u .fits; tcp-fits = t .fits },
-      ek .1,
-    )
+    let t = uint-shape 65535 k (sl .1 .1 .0) (ek .0) in
+    record {
+      item = i;
+      udp = u .value;
+      tcp = t .value;
+      more = more;
+      is = λ x. i ∷ u .is x ∷ t .is x ∷ more;
+      leaf = ei .0;
+      udp-fits = u .fits;
+      tcp-fits = t .fits;
+      rest = ek .1;
+    }
 
 no-more : (is : List Item) → leaves [] is ≡ true → is ≡ []
 no-more [] e = refl
@@ -130,28 +150,44 @@ pub endpoint-shape : (i : Item) → Slice (payloadOf i) → tuple schema.endpoin
 endpoint-shape (string s) sl e = absurd (let z : _≡_ {A = ℕ} 0 1 = cc in omega arith)
 endpoint-shape (list p) sl e =
     let w = whole-good (whole p) _ e in
-    let r = three [] (itemsOf p) (slices-items p sl) (good-if _ (w .1)) in
+    let r = three Address [] (itemsOf p) (slices-items p sl) (good-if _ (w .1)) in
+    let a = address-shape (r .item) (r .leaf) in
     record {
-      address = r .0;
-      udp = r .1;
-      tcp = r .2;
-      is = listed p _ sl (w .0) (r .4 ∙ ap (λ (more : List Item). string (r .0) ∷ uint (r .1) ∷ uint (r .2) ∷ more) (no-more (r .3) (r .6)));
-      good = r .5;
+      address = a .bytes;
+      udp = r .udp;
+      tcp = r .tcp;
+      is = listed p _ sl (w .0) (r .is ∙ (λ x. a .is x ∷ uint (r .udp) ∷ uint (r .tcp) ∷ no-more (r .more) (r .rest) x));
+      good = record { sized = a .sized; udp-fits = r .udp-fits; tcp-fits = r .tcp-fits };
+    }
+
+pub sender-shape : (i : Item) → Slice (payloadOf i) → tuple schema.sender i ≡ Good → IsSenderItem i
+sender-shape (string s) sl e = absurd (let z : _≡_ {A = ℕ} 0 1 = cc in omega arith)
+sender-shape (list p) sl e =
+    let w = whole-good (whole p) _ e in
+    let r = three SenderAddress [] (itemsOf p) (slices-items p sl) (good-if _ (w .1)) in
+    let a = sender-address-shape (r .item) (r .leaf) in
+    record {
+      from = a .from;
+      udp = r .udp;
+      tcp = r .tcp;
+      is = listed p _ sl (w .0) (r .is ∙ (λ x. a .is x ∷ uint (r .udp) ∷ uint (r .tcp) ∷ no-more (r .more) (r .rest) x));
+      good = record { sized = a .sized; udp-fits = r .udp-fits; tcp-fits = r .tcp-fits };
     }
 
 pub node-shape : (i : Item) → Slice (payloadOf i) → tuple schema.node i ≡ Good → IsNode i
 node-shape (string s) sl e = absurd (let z : _≡_ {A = ℕ} 0 1 = cc in omega arith)
 node-shape (list p) sl e =
     let w = whole-good (whole p) _ e in
-    let r = three (Bytes 64 ∷ []) (itemsOf p) (slices-items p sl) (good-if _ (w .1)) in
-    let k = one-key (r .3) (r .6) in
+    let r = three Address (Bytes 64 ∷ []) (itemsOf p) (slices-items p sl) (good-if _ (w .1)) in
+    let a = address-shape (r .item) (r .leaf) in
+    let k = one-key (r .more) (r .rest) in
     record {
-      address = r .0;
-      udp = r .1;
-      tcp = r .2;
+      address = a .bytes;
+      udp = r .udp;
+      tcp = r .tcp;
       key = k .0;
-      is = listed p _ sl (w .0) (r .4 ∙ ap (λ (more : List Item). string (r .0) ∷ uint (r .1) ∷ uint (r .2) ∷ more) (k .1));
-      good = r .5;
+      is = listed p _ sl (w .0) (r .is ∙ (λ x. a .is x ∷ uint (r .udp) ∷ uint (r .tcp) ∷ k .1 x));
+      good = record { sized = a .sized; udp-fits = r .udp-fits; tcp-fits = r .tcp-fits };
       sized = k .2;
     }
 
@@ -181,7 +217,9 @@ unfolding field
 field-shape (Uint max) i sl e = uint-shape max i sl (good-if _ e)
 field-shape (Bytes n) i sl e = string-shape n i (good-if _ e)
 field-shape Address i sl e = address-shape i (good-if _ e)
+field-shape SenderAddress i sl e = sender-address-shape i (good-if _ e)
 field-shape Endpoint i sl e = endpoint-shape i sl e
+field-shape Sender i sl e = sender-shape i sl e
 field-shape Nodes i sl e = nodes-shape i sl e
 field-shape Record i sl e = record-shape i (good-if _ e)
 
@@ -201,7 +239,9 @@ abbrev pub Limited : Kind → Type 0
 Limited (Uint max) = max < 2 ^ 64
 Limited (Bytes n) = Unit {0}
 Limited Address = Unit {0}
+Limited SenderAddress = Unit {0}
 Limited Endpoint = Unit {0}
+Limited Sender = Unit {0}
 Limited Nodes = Unit {0}
 Limited Record = Unit {0}
 
@@ -210,9 +250,13 @@ unfolding field
 shape-field (Uint max) i l s h = ap (λ (x : Item). goodIf (isLeaf (Uint max) x)) (h .is) ∙ ap goodIf (shape-uint max (h .value) l (h .fits))
 shape-field (Bytes n) i l s h = ap (λ (x : Item). goodIf (isLeaf (Bytes n) x)) (h .is) ∙ ap goodIf (eq-eqb (length (h .bytes)) n (h .sized))
 shape-field Address i l s h = ap (λ (x : Item). goodIf (isLeaf Address x)) (h .is) ∙ ap goodIf (h .sized)
+shape-field SenderAddress i l s h = ap (λ (x : Item). goodIf (isLeaf SenderAddress x)) (h .is) ∙ ap goodIf (from-sender (h .from) (h .sized))
 shape-field Endpoint i l s h =
     ap (tuple schema.endpoint) (h .is)
     ∙ shape-tuple schema.endpoint (string (h .address) ∷ uint (h .udp) ∷ uint (h .tcp) ∷ []) (subst (λ (x : Item). length (payloadOf x) < 2 ^ 64) (h .is) s) (endpoint-leaves (h .address) (h .udp) (h .tcp) (h .good))
+shape-field Sender i l s h =
+    ap (tuple schema.sender) (h .is)
+    ∙ shape-tuple schema.sender (string (fromBytes (h .from)) ∷ uint (h .udp) ∷ uint (h .tcp) ∷ []) (subst (λ (x : Item). length (payloadOf x) < 2 ^ 64) (h .is) s) (sender-leaves (h .from) (h .udp) (h .tcp) (h .good))
 shape-field Nodes i l s h =
     let small : Small (h .nodes) = subst (λ (x : Item). length (payloadOf x) < 2 ^ 64) (h .is) s in
     ap nodes (h .is) ∙ rw (whole-encodes (h .nodes) small, items-encodes (h .nodes) small) (all-good (h .nodes) small (h .all))

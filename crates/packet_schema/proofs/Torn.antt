@@ -22,7 +22,7 @@ use Rattle.packet_schema.specs.Schema.{eachNode, nodes, field, fields, v
 use Rattle.packet_schema.specs.Shapes.{Begins}
 use Rattle.packet_schema.specs.Torn.{IsItems, TornList, AnyTorn, TornNodes, Torn, TornField, TornData}
 use Rattle.packet_schema.specs.declared.Kind.{Kind}
-use Rattle.packet_schema.specs.declared.Kind.the-variants.{Uint, Bytes, Address, Endpoint, Nodes, Record}
+use Rattle.packet_schema.specs.declared.Kind.the-variants.{Uint, Bytes, Address, SenderAddress, Endpoint, Sender, Nodes, Record}
 use Rattle.packet_schema.specs.declared.Verdict.{Verdict}
 use Rattle.packet_schema.specs.declared.Verdict.the-variants.{Good, Broken, Wrong}
 use Rattle.packet_schema.proofs.Payload.{items-encodes, encodes-items, Slices, slices-items}
@@ -120,7 +120,9 @@ unfolding field
 field-torn (Uint max) i sl e = test-broken (isLeaf (Uint max) i) e
 field-torn (Bytes n) i sl e = test-broken (isLeaf (Bytes n) i) e
 field-torn Address i sl e = test-broken (isLeaf Address i) e
+field-torn SenderAddress i sl e = test-broken (isLeaf SenderAddress i) e
 field-torn Endpoint i sl e = tuple-torn schema.endpoint i sl e
+field-torn Sender i sl e = tuple-torn schema.sender i sl e
 field-torn Nodes i sl e = nodes-torn i sl e
 field-torn Record i sl e = test-broken (isRecordItem i) e
 
@@ -129,7 +131,9 @@ unfolding field
 torn-field (Uint max) i sl t = absurd t
 torn-field (Bytes n) i sl t = absurd t
 torn-field Address i sl t = absurd t
+torn-field SenderAddress i sl t = absurd t
 torn-field Endpoint i sl t = torn-tuple schema.endpoint i sl t
+torn-field Sender i sl t = torn-tuple schema.sender i sl t
 torn-field Nodes i sl t = torn-nodes i sl t
 torn-field Record i sl t = absurd t
 

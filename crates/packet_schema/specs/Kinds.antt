@@ -5,6 +5,7 @@ use mathlib.Core.List.{List, [], _∷_}
 use lib.ListN.{length}
 use lib.Dec.{leb, eqb}
 use Rattle.node.specs.Nodes.{isAddress}
+use Rattle.packet_model.specs.From.{isSenderAddress}
 use Rattle.octets.specs.Octets as octets
 use Rattle.rlp.specs.Encoding.{Item, string, list, encode}
 use Rattle.rlp.specs.Reading.{whole, uintOf}
@@ -12,7 +13,7 @@ use Rattle.rlp.specs.declared.Uint as rlp-uint
 use Rattle.rlp.specs.declared.Uint.the-variants as uint
 use Rattle.packet_schema.specs.Payload.{itemsOf}
 use Rattle.packet_schema.specs.declared.Kind.{Kind}
-use Rattle.packet_schema.specs.declared.Kind.the-variants.{Uint, Bytes, Address, Endpoint, Nodes, Record}
+use Rattle.packet_schema.specs.declared.Kind.the-variants.{Uint, Bytes, Address, SenderAddress, Endpoint, Sender, Nodes, Record}
 use Rattle.packet_schema.specs.declared.Verdict.{Verdict}
 use Rattle.packet_schema.specs.declared.Verdict.the-variants.{Good, Broken, Wrong}
 
@@ -38,7 +39,9 @@ isLeaf kind (list p) = false
 isLeaf (Uint max) (string s) = atMost (uintOf s) max
 isLeaf (Bytes n) (string s) = eqb (length s) n
 isLeaf Address (string s) = isAddress s
+isLeaf SenderAddress (string s) = isSenderAddress s
 isLeaf Endpoint (string s) = false
+isLeaf Sender (string s) = false
 isLeaf Nodes (string s) = false
 isLeaf Record (string s) = false
 
@@ -58,7 +61,11 @@ tuple kinds (list p) = cond (whole p) (goodIf (leaves kinds (itemsOf p))) Broken
 abbrev pub endpoint : List Kind
 endpoint = Address ∷ Uint 65535 ∷ Uint 65535 ∷ []
 
--- the same and a key
+-- the same where the address may be empty
+abbrev pub sender : List Kind
+sender = SenderAddress ∷ Uint 65535 ∷ Uint 65535 ∷ []
+
+-- an endpoint's items and a key
 abbrev pub node : List Kind
 node = Address ∷ Uint 65535 ∷ Uint 65535 ∷ Bytes 64 ∷ []
 

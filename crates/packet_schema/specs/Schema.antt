@@ -10,9 +10,9 @@ use Rattle.rlp.specs.Reading.{head, whole}
 use Rattle.rlp.specs.declared.Header.{Header}
 use Rattle.rlp.specs.declared.Header.the-variants as read
 use Rattle.packet_schema.specs.Payload.{itemsOf}
-use Rattle.packet_schema.specs.Kinds.{worst, goodIf, isLeaf, tuple, endpoint, node, isRecordItem}
+use Rattle.packet_schema.specs.Kinds.{worst, goodIf, isLeaf, tuple, endpoint, sender, node, isRecordItem}
 use Rattle.packet_schema.specs.declared.Kind.{Kind}
-use Rattle.packet_schema.specs.declared.Kind.the-variants.{Uint, Bytes, Address, Endpoint, Nodes, Record}
+use Rattle.packet_schema.specs.declared.Kind.the-variants.{Uint, Bytes, Address, SenderAddress, Endpoint, Sender, Nodes, Record}
 use Rattle.packet_schema.specs.declared.Verdict.{Verdict}
 use Rattle.packet_schema.specs.declared.Verdict.the-variants.{Good, Broken, Wrong}
 
@@ -30,7 +30,9 @@ unfoldable pub field : Kind → Item → Verdict
 field (Uint max) i = goodIf (isLeaf (Uint max) i)
 field (Bytes n) i = goodIf (isLeaf (Bytes n) i)
 field Address i = goodIf (isLeaf Address i)
+field SenderAddress i = goodIf (isLeaf SenderAddress i)
 field Endpoint i = tuple endpoint i
+field Sender i = tuple sender i
 field Nodes i = nodes i
 field Record i = goodIf (isRecordItem i)
 

@@ -8,12 +8,19 @@ use Rattle.node.specs.Nodes.{isAddress}
 use Rattle.octets.specs.Octets as octets
 use Rattle.rlp.specs.Encoding.{Item, string, list, encode, encodes}
 use Rattle.packet_model.specs.Items.{dataOf, uint, endpoint, node}
+use Rattle.packet_model.specs.From.{From, fromBytes, isFrom}
 use Rattle.packet_schema.specs.declared.Kind.{Kind}
-use Rattle.packet_schema.specs.declared.Kind.the-variants.{Uint, Bytes, Address, Endpoint, Nodes, Record}
+use Rattle.packet_schema.specs.declared.Kind.the-variants.{Uint, Bytes, Address, SenderAddress, Endpoint, Sender, Nodes, Record}
 
 -- address of 4 or 16 bytes, ports of 16 bits
 pub record IsEndpoint (address : octets.Bytes) (udp tcp : ℕ) : Type 0 where
   pub sized : isAddress address ≡ true
+  pub udp-fits : udp ≤ 65535
+  pub tcp-fits : tcp ≤ 65535
+
+-- the same of an address that may be unknown
+pub record IsSender (from : From) (udp tcp : ℕ) : Type 0 where
+  pub sized : isFrom from ≡ true
   pub udp-fits : udp ≤ 65535
   pub tcp-fits : tcp ≤ 65535
 
@@ -34,6 +41,13 @@ pub record IsEndpointItem (i : Item) : Type 0 where
   pub tcp : ℕ
   pub is : i ≡ endpoint address udp tcp
   pub good : IsEndpoint address udp tcp
+
+pub record IsSenderItem (i : Item) : Type 0 where
+  pub from : From
+  pub udp : ℕ
+  pub tcp : ℕ
+  pub is : i ≡ endpoint (fromBytes from) udp tcp
+  pub good : IsSender from udp tcp
 
 pub record IsNode (i : Item) : Type 0 where
   pub address : octets.Bytes
@@ -63,12 +77,19 @@ pub record IsAddressItem (i : Item) : Type 0 where
   pub is : i ≡ string bytes
   pub sized : isAddress bytes ≡ true
 
+pub record IsSenderAddress (i : Item) : Type 0 where
+  pub from : From
+  pub is : i ≡ string (fromBytes from)
+  pub sized : isFrom from ≡ true
+
 -- the item encodes a value of the kind
 abbrev pub Shape : Kind → Item → Type 0
 Shape (Uint max) i = IsUint max i
 Shape (Bytes n) i = IsString n i
 Shape Address i = IsAddressItem i
+Shape SenderAddress i = IsSenderAddress i
 Shape Endpoint i = IsEndpointItem i
+Shape Sender i = IsSenderItem i
 Shape Nodes i = IsNodes i
 Shape Record i = IsRecord i
 

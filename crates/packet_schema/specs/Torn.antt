@@ -6,7 +6,7 @@ use Rattle.octets.specs.Octets as octets
 use Rattle.rlp.specs.Encoding.{Item, string, list, encodes}
 use Rattle.packet_schema.specs.Shapes.{Begins}
 use Rattle.packet_schema.specs.declared.Kind.{Kind}
-use Rattle.packet_schema.specs.declared.Kind.the-variants.{Uint, Bytes, Address, Endpoint, Nodes, Record}
+use Rattle.packet_schema.specs.declared.Kind.the-variants.{Uint, Bytes, Address, SenderAddress, Endpoint, Sender, Nodes, Record}
 
 -- the encoding of whole items, one after the other
 abbrev pub IsItems : octets.Bytes → Type 0
@@ -30,7 +30,9 @@ abbrev pub Torn : Kind → Item → Type 0
 Torn (Uint max) i = ⊥
 Torn (Bytes n) i = ⊥
 Torn Address i = ⊥
+Torn SenderAddress i = ⊥
 Torn Endpoint i = TornList i
+Torn Sender i = TornList i
 Torn Nodes i = TornNodes i
 Torn Record i = ⊥
 

@@ -18,8 +18,12 @@ pub enum Kind {
     Bytes(usize),
     // A string of 4 or 16 bytes.
     Address,
+    // A string of 4 or 16 bytes, or the empty one.
+    SenderAddress,
     // A list of exactly an address, a UDP port and a TCP port.
     Endpoint,
+    // The same where the address may be empty.
+    Sender,
     // A list of lists of exactly an endpoint's items and a 64-byte key.
     Nodes,
     // A list of at most 300 bytes with its header.
@@ -73,7 +77,9 @@ pub fn is_leaf(kind: Kind, list: bool, p: &[u8]) -> bool
         },
         Kind::Bytes(n) => p.len() == n,
         Kind::Address => node::is_address_size(p.len()),
+        Kind::SenderAddress => packet_model::is_sender_size(p.len()),
         Kind::Endpoint => false,
+        Kind::Sender => false,
         Kind::Nodes => false,
         Kind::Record => false,
     }
@@ -140,6 +146,13 @@ pub fn endpoint(list: bool, p: &[u8]) -> Verdict
     tuple(list, p, [Kind::Address, port, port, port], 3)
 }
 
+pub fn sender(list: bool, p: &[u8]) -> Verdict
+    ensures { λ r. ⌜ r ≡ spec.tuple spec.sender (itemOf list (now (p .entry))) ⌝ }
+{
+    let port = Kind::Uint(PORT);
+    tuple(list, p, [Kind::SenderAddress, port, port, port], 3)
+}
+
 pub fn node(list: bool, p: &[u8]) -> Verdict
     ensures { λ r. ⌜ r ≡ spec.tuple spec.node (itemOf list (now (p .entry))) ⌝ }
 {
@@ -198,7 +211,9 @@ fn field(kind: Kind, list: bool, p: &[u8]) -> Verdict
         Kind::Uint(_) => good_if(is_leaf(kind, list, p)),
         Kind::Bytes(_) => good_if(is_leaf(kind, list, p)),
         Kind::Address => good_if(is_leaf(kind, list, p)),
+        Kind::SenderAddress => good_if(is_leaf(kind, list, p)),
         Kind::Endpoint => endpoint(list, p),
+        Kind::Sender => sender(list, p),
         Kind::Nodes => nodes(list, p),
         Kind::Record => good_if(is_record(list, p)),
     }

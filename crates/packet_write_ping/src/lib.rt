@@ -7,6 +7,7 @@ use packet_bodies::TO_TCP;
 use packet_bodies::body_size;
 use packet_bodies::put_start;
 use packet_model::EnrSeq;
+use packet_model::is_sender_size;
 use written::Written;
 
 // The version of a Ping that is written.
@@ -15,14 +16,14 @@ const VERSION: u64 = 4;
 fn can_ping(from: &[u8], to: &[u8]) -> bool
     ensures { λ r. ⌜ r ≡ canPing (now (from .entry)) (now (to .entry)) ⌝ }
 {
-    if is_address_size(from.len()) {
+    if is_sender_size(from.len()) {
         is_address_size(to.len())
     } else {
         false
     }
 }
 
-// Writes the body of a Ping: version 4, `to` with TCP port 0.
+// Writes the body of a Ping: version 4, `to` with TCP port 0. An empty `from` says that the address is unknown.
 pub fn write_ping(
     buf: &mut [u8],
     from: &[u8],

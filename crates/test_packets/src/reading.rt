@@ -10,6 +10,7 @@ use packet::Parsed;
 use packet::Ping;
 use packet::Pong;
 use packet::Recipient;
+use packet::SenderAddress;
 use packet_model::EnrSeq;
 use packet_span::Span;
 use test_lines::print_bytes;
@@ -30,6 +31,15 @@ fn print_to(g: &[u8], to: Recipient) {
     print_number(to.udp as u64);
 }
 
+fn print_from(g: &[u8], address: SenderAddress) {
+    match address {
+        SenderAddress::Unknown => {
+            io::write_all(STDOUT_FILENO, b"\tunknown");
+        }
+        SenderAddress::Known(span) => print_bytes(discv4::field_part(g, span)),
+    }
+}
+
 fn print_ping(g: &[u8], p: Ping) {
     let from = p.from;
     let address = from.address;
@@ -37,7 +47,7 @@ fn print_ping(g: &[u8], p: Ping) {
     let seq = p.enr_seq;
     io::write_all(STDOUT_FILENO, b"0\t1");
     print_number(p.version);
-    print_bytes(discv4::field_part(g, address));
+    print_from(g, address);
     print_number(from.udp as u64);
     print_number(from.tcp as u64);
     print_to(g, to);

@@ -7,7 +7,8 @@ use crate::{sys, Node, Number};
 pub enum Packet<'a> {
     Ping {
         version: u64,
-        from: &'a [u8],
+        /// The address of the sender; `None` where it is unknown.
+        from: Option<&'a [u8]>,
         from_udp: u16,
         from_tcp: u16,
         to: &'a [u8],
@@ -99,7 +100,7 @@ impl<'a> Packet<'a> {
         Ok(match fields[TYPE] {
             1 => Packet::Ping {
                 version: fields[VERSION],
-                from: part(FROM),
+                from: (fields[FROM + 1] != 0).then(|| part(FROM)),
                 from_udp: fields[FROM_UDP] as u16,
                 from_tcp: fields[FROM_TCP] as u16,
                 to: part(TO),

@@ -23,11 +23,11 @@ fn size(code: u32) -> Result<usize, Number> {
     valued(code).map(|size| size as usize)
 }
 
-/// Addresses have 4 or 16 bytes.
+/// Addresses have 4 or 16 bytes; `from` is `None`, or empty, where it is unknown.
 #[allow(clippy::too_many_arguments)]
 pub fn ping(
     buf: &mut [u8],
-    from: &[u8],
+    from: Option<&[u8]>,
     from_udp: u16,
     from_tcp: u16,
     to: &[u8],
@@ -35,7 +35,7 @@ pub fn ping(
     expiration: u64,
     enr_seq: Option<u64>,
 ) -> Result<usize, Number> {
-    size(sys::write_ping(buf, from, from_udp, from_tcp, to, to_udp, expiration, enr_seq))
+    size(sys::write_ping(buf, from.unwrap_or(&[]), from_udp, from_tcp, to, to_udp, expiration, enr_seq))
 }
 
 /// `ping_hash` is the first 32 bytes of the ping's datagram.

@@ -17,8 +17,10 @@ fn datagram(body: &[u8]) -> Vec<u8> {
 
 fn ping(expiration: u64) -> Vec<u8> {
     datagram(
-        &write::in_vec(|buf| write::ping(buf, &ADDRESS, 30303, 30304, &ADDRESS, 9, expiration, Some(5)))
-            .unwrap(),
+        &write::in_vec(|buf| {
+            write::ping(buf, Some(&ADDRESS), 30303, 30304, &ADDRESS, 9, expiration, Some(5))
+        })
+        .unwrap(),
     )
 }
 
@@ -191,7 +193,7 @@ fn fields() {
     let datagram = ping(77);
     let read = Packet::Ping {
         version: 4,
-        from: &ADDRESS,
+        from: Some(&ADDRESS),
         from_udp: 30303,
         from_tcp: 30304,
         to: &ADDRESS,
@@ -202,6 +204,16 @@ fn fields() {
     assert_eq!(Packet::read(&datagram), Ok(read));
     assert_eq!(Packet::read(&datagram[..97]), Err(8));
     assert_eq!(Packet::read(&datagram[..120]), Err(9));
+}
+
+/// An unknown `from` is written and read back; both its ports are told.
+#[test]
+fn unknown_from() {
+    let body = write::in_vec(|buf| write::ping(buf, None, 1, 2, &ADDRESS, 3, 4, None)).unwrap();
+    assert_eq!(body[..7], [1, 0xce, 4, 0xc3, 0x80, 1, 2]);
+    let datagram = datagram(&body);
+    let Ok(Packet::Ping { from, from_udp, from_tcp, to, .. }) = Packet::read(&datagram) else { panic!() };
+    assert_eq!((from, from_udp, from_tcp, to), (None, 1, 2, &ADDRESS[..]));
 }
 
 /// The room to the byte, and what lies behind it.
@@ -217,7 +229,8 @@ fn rooms() {
     assert_eq!(write::join(&mut [], &SIGNATURE[1..], &[1]), Err(20));
     assert_eq!(write::join(&mut buf, &SIGNATURE, &[1]), Err(19));
     assert_eq!(write::find_node(&mut buf, &OWN[1..], 1), Err(20));
-    assert_eq!(write::ping(&mut buf, &[], 1, 2, &ADDRESS, 3, 4, None), Err(20));
+    assert_eq!(write::ping(&mut buf, Some(&[7]), 1, 2, &ADDRESS, 3, 4, None), Err(20));
+    assert_eq!(write::ping(&mut buf, None, 1, 2, &[], 3, 4, None), Err(20));
     assert_eq!(write::pong(&mut buf, &ADDRESS, 3, &[0; 31], 4, None), Err(20));
     assert_eq!(write::enr_response(&mut buf, &[0; 32], &[0xc1]), Err(20));
     assert_eq!(write::neighbors(&mut buf, &[Node::EMPTY], 1), Err(20));

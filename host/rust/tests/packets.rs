@@ -10,7 +10,7 @@ use common::{compare_reading, counted, fields};
 use reference::generator::datagrams;
 use reference::generator::peers::{random_endpoint, random_port};
 use reference::generator::random::Random;
-use reference::packet::{self, Recipient};
+use reference::packet::{self, Recipient, Sender};
 use reference::rlp;
 
 fn address(random: &mut Random) -> Vec<u8> {
@@ -52,8 +52,9 @@ fn value(random: &mut Random, kind: usize) -> packet::Packet {
     let to = Recipient { address: address(random), udp: random_port(random) };
     match kind {
         1 => {
-            let mut from = random_endpoint(random);
-            from.address = address(random);
+            let mut from = Sender::from(random_endpoint(random));
+            // an empty one is unknown
+            from.address = Some(address(random)).filter(|address| !address.is_empty() && random.chance(80));
             packet::Packet::Ping { version: 4, from, to, expiration, enr_seq }
         }
         2 => packet::Packet::Pong { to, ping_hash: sized(random, 32), expiration, enr_seq },
@@ -74,7 +75,8 @@ fn value(random: &mut Random, kind: usize) -> packet::Packet {
 fn write_ours(packet: &packet::Packet, buf: &mut [u8]) -> Result<usize, Number> {
     match packet {
         packet::Packet::Ping { from, to, expiration, enr_seq, .. } => {
-            write::ping(buf, &from.address, from.udp, from.tcp, &to.address, to.udp, *expiration, *enr_seq)
+            let address = from.address.as_deref();
+            write::ping(buf, address, from.udp, from.tcp, &to.address, to.udp, *expiration, *enr_seq)
         }
         packet::Packet::Pong { to, ping_hash, expiration, enr_seq } => {
             write::pong(buf, &to.address, to.udp, ping_hash, *expiration, *enr_seq)

@@ -13,6 +13,20 @@ pub struct Endpoint {
     pub tcp: u16,
 }
 
+/// Ping's `from`. Document 02 (C-13): an empty address there says "unknown", and both ports are still told.
+#[derive(Clone, Debug, PartialEq, Eq)]
+pub struct Sender {
+    pub address: Option<Vec<u8>>,
+    pub udp: u16,
+    pub tcp: u16,
+}
+
+impl From<Endpoint> for Sender {
+    fn from(endpoint: Endpoint) -> Sender {
+        Sender { address: Some(endpoint.address), udp: endpoint.udp, tcp: endpoint.tcp }
+    }
+}
+
 /// The recipient of a Ping or Pong: its third item is "not a field".
 #[derive(Clone, Debug, PartialEq, Eq)]
 pub struct Recipient {
@@ -32,7 +46,7 @@ pub struct Node {
 pub enum Packet {
     Ping {
         version: u64,
-        from: Endpoint,
+        from: Sender,
         to: Recipient,
         expiration: u64,
         enr_seq: Option<u64>,
@@ -161,7 +175,7 @@ fn fields(number: u8, items: &[Item]) -> Option<Packet> {
     Some(match number {
         1 => Packet::Ping {
             version: number64(0)?, // "Any version passes"
-            from: endpoint(item(1)?)?,
+            from: sender(item(1)?)?,
             to: recipient(item(2)?)?,
             expiration: number64(3)?,
             enr_seq: optional(4)?,
@@ -223,6 +237,15 @@ fn endpoint(item: &Item) -> Option<Endpoint> {
     }
 }
 
+/// C-13: "Reading an endpoint must allow 0, 4 or 16 bytes [..] in Ping's `from` only"
+fn sender(item: &Item) -> Option<Sender> {
+    let parts = list(item)?;
+    let [address, udp, tcp] = &parts[..] else { return None };
+    let address = string(address, &[0, 4, 16])?;
+    let address = if address.is_empty() { None } else { Some(address) };
+    Some(Sender { address, udp: port(udp)?, tcp: port(tcp)? })
+}
+
 /// A7: the third item of `to` must be a 16-bit integer, and isn't handed back.
 fn recipient(item: &Item) -> Option<Recipient> {
     endpoint(item).map(|endpoint| Recipient { address: endpoint.address, udp: endpoint.udp })
@@ -246,7 +269,7 @@ pub fn body(packet: &Packet) -> Result<Vec<u8>, Number> {
     match packet {
         Packet::Ping { version: _, from, to, expiration, enr_seq } => {
             items.push(rlp::write_integer(4));
-            items.push(rlp::write_list(&write_endpoint(&from.address, from.udp, from.tcp)?));
+            items.push(rlp::write_list(&write_sender(from)?));
             items.push(rlp::write_list(&write_endpoint(&to.address, to.udp, 0)?));
             items.push(rlp::write_integer(*expiration));
             items.extend(enr_seq.map(rlp::write_integer));
@@ -301,6 +324,18 @@ fn write_string(bytes: &[u8], lengths: &[usize]) -> Result<Vec<u8>, Number> {
 fn write_endpoint(address: &[u8], udp: u16, tcp: u16) -> Result<Vec<Vec<u8>>, Number> {
     let address = write_string(address, &[4, 16])?;
     Ok(vec![address, rlp::write_integer(udp.into()), rlp::write_integer(tcp.into())])
+}
+
+/// C-13: "The writer may write an unknown `from`; any other empty address is still 20."
+fn write_sender(from: &Sender) -> Result<Vec<Vec<u8>>, Number> {
+    match &from.address {
+        Some(address) => write_endpoint(address, from.udp, from.tcp),
+        None => Ok(vec![
+            rlp::write_string(&[]),
+            rlp::write_integer(from.udp.into()),
+            rlp::write_integer(from.tcp.into()),
+        ]),
+    }
 }
 
 /// 19: "room shorter than a writable value needs"; "Bytes past what is written stay."

@@ -146,6 +146,10 @@ fn endpoint(address: &[u8]) -> Endpoint {
     Endpoint { address: address.to_vec(), udp: 7, tcp: 8 }
 }
 
+fn unknown() -> Sender {
+    Sender { address: None, udp: 7, tcp: 8 }
+}
+
 fn node(address: &[u8], key: &[u8]) -> Node {
     Node { endpoint: endpoint(address), key: key.to_vec() }
 }
@@ -159,14 +163,21 @@ fn writable() -> Vec<Packet> {
     let record = write_list(&[vec![0x81; 297]]);
     assert_eq!(record.len(), 300);
     vec![
-        Packet::Ping { version: 4, from: endpoint(&V4), to: recipient(), expiration: 0, enr_seq: None },
         Packet::Ping {
             version: 4,
-            from: endpoint(&[2; 16]),
+            from: endpoint(&V4).into(),
+            to: recipient(),
+            expiration: 0,
+            enr_seq: None,
+        },
+        Packet::Ping {
+            version: 4,
+            from: endpoint(&[2; 16]).into(),
             to: recipient(),
             expiration: 1,
             enr_seq: Some(0),
         },
+        Packet::Ping { version: 4, from: unknown(), to: recipient(), expiration: 1, enr_seq: Some(2) },
         Packet::Pong { to: recipient(), ping_hash: vec![3; 32], expiration: 128, enr_seq: None },
         Packet::Pong { to: recipient(), ping_hash: vec![3; 32], expiration: 5, enr_seq: Some(u64::MAX) },
         Packet::FindNode { target: vec![4; 64], expiration: u64::MAX },
@@ -205,8 +216,28 @@ fn a8_writers_20_then_19() {
         assert_eq!(room[needed..], [0xaa; 3], "bytes past what is written stay");
     }
     let refused = [
-        Packet::Ping { version: 4, from: endpoint(&[1; 5]), to: recipient(), expiration: 0, enr_seq: None },
-        Packet::Ping { version: 4, from: endpoint(&[]), to: recipient(), expiration: 0, enr_seq: None },
+        Packet::Ping {
+            version: 4,
+            from: endpoint(&[1; 5]).into(),
+            to: recipient(),
+            expiration: 0,
+            enr_seq: None,
+        },
+        Packet::Ping {
+            version: 4,
+            from: endpoint(&[]).into(),
+            to: recipient(),
+            expiration: 0,
+            enr_seq: None,
+        },
+        Packet::Ping {
+            version: 4,
+            from: unknown(),
+            to: Recipient { address: vec![], udp: 1 },
+            expiration: 0,
+            enr_seq: None,
+        },
+        Packet::Neighbors { nodes: vec![node(&[], &[5; 64])], expiration: 5 },
         Packet::Pong {
             to: Recipient { address: vec![], udp: 1 },
             ping_hash: vec![3; 32],
@@ -232,9 +263,49 @@ fn a8_writers_20_then_19() {
     // twelve are written, and a ping's version is 4 whatever the value says
     let twelve = Packet::Neighbors { nodes: vec![node(&V4, &[5; 64]); 12], expiration: 5 };
     assert!(body(&twelve).is_ok());
-    let five =
-        Packet::Ping { version: 5, from: endpoint(&V4), to: recipient(), expiration: 0, enr_seq: None };
+    let five = Packet::Ping {
+        version: 5,
+        from: endpoint(&V4).into(),
+        to: recipient(),
+        expiration: 0,
+        enr_seq: None,
+    };
     assert_eq!(body(&five), body(&writable()[0]));
+}
+
+/// Document 02, C-13: an empty address is unknown in Ping's `from`, with both ports, and 10 elsewhere.
+#[test]
+fn c13_an_empty_address() {
+    let ping = |from: &str, to: &str| read(&datagram(1, &bytes(&list(&["04", from, to, "09"]))));
+    let Ok(Packet::Ping { from, to, .. }) = ping("c7 80 820cfa 8215a8", FROM) else { panic!() };
+    assert_eq!(from, Sender { address: None, udp: 3322, tcp: 5544 });
+    assert_eq!(to, Recipient { address: vec![127, 0, 0, 1], udp: 3322 });
+    for (from, number) in [
+        ("c3 c0 01 02", 10),           // a list for the address
+        ("c3 00 01 02", 10),           // one byte
+        ("c8 857f00000101 01 02", 10), // five
+        ("c4 8100 01 02", 9),
+        ("c2 80 01", 10), // a port is missing
+        ("c4 80 01 02 03", 10),
+        ("c5 80 01 02 8203", 9),
+        ("c0", 10),
+        ("80", 10),
+    ] {
+        assert_eq!(outcome(&ping(from, FROM)), number, "{from}");
+    }
+    let hash = format!("a0{}", "11".repeat(32));
+    assert_eq!(outcome(&ping(FROM, "c3 80 01 02")), 10);
+    assert_eq!(outcome(&ping("c3 80 01 02", "c3 80 01 02")), 10);
+    assert_eq!(number(2, &list(&["c3 80 01 02", &hash, "09"])), 10);
+    let node = list(&["80", "01", "02", &format!("b840{}", "22".repeat(64))]);
+    assert_eq!(number(4, &list(&[&list(&[&node]), "09"])), 10);
+    // in a log; the address beside a datagram is never empty
+    let mut log = Log::new();
+    let key = keys(255, 1)[0];
+    let whole = |from: &str, to: &str| datagram(1, &bytes(&list(&["04", from, to, "09"])));
+    assert_eq!(log.rx(1, &key, &whole("c3 80 01 02", FROM)), "0\tpong\tping");
+    assert_eq!(log.rx(1, &key, &whole(FROM, "c3 80 01 02")), "10");
+    assert_eq!(log.rx_from(1, &[], PORT, &key, &whole("c3 80 01 02", FROM)), "21");
 }
 
 #[test]

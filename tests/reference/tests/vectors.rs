@@ -113,7 +113,7 @@ fn eip_8() {
         panic!("a ping")
     };
     assert_eq!((version, expiration, enr_seq), (4, 1136239445, Some(1)));
-    assert_eq!((from.address, from.udp, from.tcp), (vec![127, 0, 0, 1], 3322, 5544));
+    assert_eq!((from.address, from.udp, from.tcp), (Some(vec![127, 0, 0, 1]), 3322, 5544));
     assert_eq!((to.address, to.udp), (bytes("00000000000000000000000000000001"), 2222));
     let Ok(Packet::Neighbors { nodes, expiration }) = read(&bytes(NEIGHBORS)) else { panic!("neighbors") };
     assert_eq!((nodes.len(), expiration), (4, 1136239445));

@@ -6,7 +6,7 @@ use Rattle.packet.proofs.recipient_at.Statement.{statement}
 use Rattle.packet.proofs.recipient_at.Tie as tie
 
 returns : tie.Need-returns
-returns c = ap recipient (c .before .sender-at .ensures)
+returns c = ap recipient (c .before .endpoint-at .ensures)
 
 pub recipient-at-spec : {M : Type 1} → statement M
 recipient-at-spec =

@@ -1,29 +1,10 @@
 -- `packet::sender_at` meets its contract. Assumes nothing.
-use native.Mathlib.Omega.{arith}
-use Rattle.packet_fields.proofs.Spans.{span-fits, inner-fits}
-use Rattle.packet.proofs.Made.{sender-is}
 use borrow.Author.Needs.{needs}
 use Rattle.packet.proofs.sender_at.Statement.{statement}
 use Rattle.packet.proofs.sender_at.Tie as tie
 
-add-first : tie.Need-add-first
-add-first c = omega (arith, span-fits (c .before .before .before .before .args .n) (c .before .before .before .before .args .s .now) _ (c .before .before .item-payload .ensures))
-
-moved-requires : tie.Need-moved-requires
-moved-requires c κs = omega (arith, inner-fits (c .before .before .before .before .before .args .n) 0 (c .before .before .before .before .before .args .s .now) _ _ _ (c .before .before .before .item-payload .ensures) (c .before .before .bytes-of .ensures) (c .item-payload2 .ensures))
-
 returns : tie.Need-returns
-returns c = sender-is (c .before .before .before .before .before .before .before .before .args .base) (c .before .before .before .before .before .before .before .before .args .n) (c .before .before .before .before .before .before .before .before .args .s .now) _ _ (c .before .before .before .before .before .before .item-payload .ensures) (c .before .before .before .before .before .bytes-of .ensures) _ _ _ _ (c .before .before .before .item-payload2 .ensures) (c .before .before .moved .ensures) (c .before .port-item .ensures) (c .port-item2 .ensures)
+returns c = rw (c .said .ensures, ← (c .before .before .endpoint-at .ensures))
 
 pub sender-at-spec : {M : Type 1} → statement M
-sender-at-spec =
-    tie.close
-    (tie.spec
-    (λ c κs. search needs)
-    (λ c κs. search needs)
-    add-first
-    (λ c κs. search needs)
-    moved-requires
-    (λ c κs. search needs)
-    (λ c κs. search needs)
-    returns)
+sender-at-spec = tie.close (tie.spec (λ c κs. search needs) (λ c κs. search needs) returns)

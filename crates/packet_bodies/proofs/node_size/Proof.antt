@@ -4,6 +4,7 @@ use mathlib.Core.Bool.{true}
 use native.Mathlib.Omega.{arith}
 use lib.ListN.{length, take}
 use Rattle.node.specs.Nodes.{isAddress}
+use Rattle.packet_model.proofs.From.{address-sender}
 use Rattle.packet_bodies.proofs.Nodes.{address-within, address-length, address-is}
 use Rattle.packet_bodies.proofs.Sizes as sizes
 use borrow.Author.Needs.{needs}
@@ -29,7 +30,10 @@ slice-aggregate-fields-size c =
     sym (address-length (e .len) (e .address) (s .pre) (address-array s))
 
 fields-size-requires : tie.Need-fields-size-requires
-fields-size-requires c κs = is-address (c .before .before .before .before)
+fields-size-requires c κs =
+    let s = c .before .before .before .before in
+    let e = s .args .node .endpoint in
+    address-sender (take (e .len) (e .address)) (is-address s)
 
 returns : tie.Need-returns
 returns c =

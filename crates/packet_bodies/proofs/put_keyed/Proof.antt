@@ -7,6 +7,7 @@ use lib.ListN.{length}
 use Rattle.octets.specs.Octets.{Bytes}
 use Rattle.rlp.specs.Encoding.{header, encode, encodes, string}
 use Rattle.packet_model.specs.Items.{node}
+use Rattle.packet_model.proofs.From.{address-sender}
 use Rattle.packet_bodies.specs.Parts.{endpointItems}
 use Rattle.octets.proofs.Progress.{Progress, concat, start, room, step, finish}
 use Rattle.packet_bodies.proofs.Sizes.{framed, keyed, keyed-size, encodes-append}
@@ -31,6 +32,9 @@ begun : (c : tie.After-fields-size) → let a = c .before .before .before .befor
 begun c =
     let s = c .before .before .before .before in
     start (s .args .buf .now) (s .args .at) (all c) (omega (arith, ap length (all-is c), s .pre .2))
+
+fields-size-requires : tie.Need-fields-size-requires
+fields-size-requires c κs = let s = c .before .before .before in address-sender (s .args .address .now) (s .pre .0)
 
 write-header-requires : tie.Need-write-header-requires
 write-header-requires c κs = (omega arith, room (begun (c .before)))
@@ -60,7 +64,7 @@ pub put-keyed-spec : {M : Type 1} → statement M
 put-keyed-spec =
     tie.close
     (tie.spec
-    (λ c κs. search needs)
+    fields-size-requires
     (λ c. search needs)
     write-header-requires
     put-fields-requires

@@ -15,6 +15,9 @@ returns-4 c = simp (c .before .kind2 .given .1, c .before .before .before .if1 .
 returns-5 : tie.Need-returns-5
 returns-5 c = simp (c .before .enum-told2 .given .1, c .before .before .before .if1 .left, c .is-address-size .ensures)
 
+returns-6 : tie.Need-returns-6
+returns-6 c = simp (c .before .enum-told3 .given .1, c .before .before .before .if1 .left, c .is-sender-size .ensures)
+
 pub is-leaf-spec : {M : Type 1} → statement M
 is-leaf-spec =
     tie.close
@@ -28,12 +31,17 @@ is-leaf-spec =
     (λ c. search needs)
     (λ c κs. search needs)
     (λ c. search needs)
+    (λ c κs. search needs)
+    (λ c. search needs)
+    (λ c. search needs)
     (λ c. search needs)
     (λ c. search needs)
     returns-2
     returns-3
     returns-4
     returns-5
+    returns-6
+    (λ c. search needs)
     (λ c. search needs)
     (λ c. search needs)
     (λ c. search needs))

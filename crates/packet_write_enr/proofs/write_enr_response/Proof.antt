@@ -49,7 +49,7 @@ parts-are c = ap (λ (x : Bytes). encode (string (c .before .before .before .bef
 size-is : (c : tie.Then1) → 33 + length (c .before .before .before .before .before .args .«record» .now) ≡ length (encodes (items (c .before .before .before .before .before)))
 size-is c =
     let h = hash-size c in
-    omega (arith, total-size (items (c .before .before .before .before .before)), string-short (c .before .before .before .before .before .args .request-hash .now) (omega arith) (omega arith), ap length (record-is c))
+    omega (arith, total-size (items (c .before .before .before .before .before)), string-short (c .before .before .before .before .before .args .request-hash .now) (λ o. omega arith) (omega arith), ap length (record-is c))
 
 begun : (c : tie.Then2) → Begun 6 (33 + length (c .before .before .before .before .before .before .before .args .«record» .now)) (parts (c .before .before .before .before .before .before .before)) (c .before .before .before .before .before .before .before .args .buf .now)
 begun c = begin 6 (items (c .before .before .before .before .before .before .before)) (size-is (c .before .before)) (parts-are (c .before .before)) (omega (arith, c .if2 .taken, c .before .body-size .ensures))

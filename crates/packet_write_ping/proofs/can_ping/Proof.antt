@@ -5,10 +5,10 @@ use Rattle.packet_write_ping.proofs.can_ping.Statement.{statement}
 use Rattle.packet_write_ping.proofs.can_ping.Tie as tie
 
 returns : tie.Need-returns
-returns c = rw (sym (c .before .before .is-address-size .ensures) ∙ c .before .if1 .taken) (c .is-address-size2 .ensures)
+returns c = rw (sym (c .before .before .is-sender-size .ensures) ∙ c .before .if1 .taken) (c .is-address-size .ensures)
 
 returns-2 : tie.Need-returns-2
-returns-2 c = rw (sym (c .before .is-address-size .ensures) ∙ c .if1 .left)
+returns-2 c = rw (sym (c .before .is-sender-size .ensures) ∙ c .if1 .left)
 
 pub can-ping-spec : {M : Type 1} → statement M
 can-ping-spec =

@@ -10,6 +10,8 @@ use Rattle.octets.specs.Octets.{Bytes}
 use Rattle.rlp.specs.Encoding.{Item, encode, encodes}
 use Rattle.rlp.proofs.Writing.{uint-size-small}
 use Rattle.packet_model.specs.Items.{uint, endpoint, pingItems, enrSeqItems}
+use Rattle.packet_model.specs.From.{isSenderAddress}
+use Rattle.packet_model.proofs.From.{address-sender}
 use Rattle.packet_bodies.specs.Parts.{lastItems}
 use Rattle.lists.proofs.Laws.{and-left, and-right}
 use Rattle.packet_bodies.proofs.Sizes.{total-size}
@@ -42,11 +44,11 @@ parts-are c = ap (λ (x : Bytes). encode (uint 4) ++ (encode (from c) ++ (encode
 ok : (c : tie.Then1) → canPing (c .before .before .before .before .before .args .from .now) (c .before .before .before .before .before .args .to .now) ≡ true
 ok c = sym (c .before .can-ping .ensures) ∙ c .if1 .taken
 
-from-ok : (c : tie.Then1) → isAddress (c .before .before .before .before .before .args .from .now) ≡ true
-from-ok c = and-left (isAddress (c .before .before .before .before .before .args .from .now)) (isAddress (c .before .before .before .before .before .args .to .now)) (ok c)
+from-ok : (c : tie.Then1) → isSenderAddress (c .before .before .before .before .before .args .from .now) ≡ true
+from-ok c = and-left (isSenderAddress (c .before .before .before .before .before .args .from .now)) (isAddress (c .before .before .before .before .before .args .to .now)) (ok c)
 
-to-ok : (c : tie.Then1) → isAddress (c .before .before .before .before .before .args .to .now) ≡ true
-to-ok c = and-right (isAddress (c .before .before .before .before .before .args .from .now)) (isAddress (c .before .before .before .before .before .args .to .now)) (ok c)
+to-ok : (c : tie.Then1) → isSenderAddress (c .before .before .before .before .before .args .to .now) ≡ true
+to-ok c = address-sender (c .before .before .before .before .before .args .to .now) (and-right (isSenderAddress (c .before .before .before .before .before .args .from .now)) (isAddress (c .before .before .before .before .before .args .to .now)) (ok c))
 
 abbrev size : tie.After-last-size → ℕ
 size c = 1 + c .before .before .endpoint-size .result + c .before .endpoint-size2 .result + c .last-size .result

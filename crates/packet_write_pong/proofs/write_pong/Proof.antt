@@ -11,6 +11,8 @@ use Rattle.rlp.specs.Encoding.{Item, encode, encodes, string}
 use lib.Dec.{eqb}
 use borrow.Author.Tests.{eqb-true}
 use Rattle.packet_model.specs.Items.{endpoint, pongItems, enrSeqItems}
+use Rattle.packet_model.specs.From.{isSenderAddress}
+use Rattle.packet_model.proofs.From.{address-sender}
 use Rattle.packet_bodies.specs.Parts.{lastItems}
 use Rattle.lists.proofs.Laws.{and-left, and-right}
 use Rattle.packet_bodies.proofs.Sizes.{total-size, string-short}
@@ -40,8 +42,8 @@ parts-are c = ap (λ (x : Bytes). encode (to c) ++ (encode (string (c .args .pin
 ok : (c : tie.Then1) → canPong (c .before .before .before .before .before .args .to .now) (c .before .before .before .before .before .args .ping-hash .now) ≡ true
 ok c = sym (c .before .can-pong .ensures) ∙ c .if1 .taken
 
-to-ok : (c : tie.Then1) → isAddress (c .before .before .before .before .before .args .to .now) ≡ true
-to-ok c = and-left (isAddress (c .before .before .before .before .before .args .to .now)) (eqb (length (c .before .before .before .before .before .args .ping-hash .now)) 32) (ok c)
+to-ok : (c : tie.Then1) → isSenderAddress (c .before .before .before .before .before .args .to .now) ≡ true
+to-ok c = address-sender (c .before .before .before .before .before .args .to .now) (and-left (isAddress (c .before .before .before .before .before .args .to .now)) (eqb (length (c .before .before .before .before .before .args .ping-hash .now)) 32) (ok c))
 
 hash-size : (c : tie.Then1) → length (c .before .before .before .before .before .args .ping-hash .now) ≡ 32
 hash-size c =
@@ -54,7 +56,7 @@ size c = c .before .endpoint-size .result + 33 + c .last-size .result
 size-is : (c : tie.After-last-size) → size c ≡ length (encodes (items (c .before .before .before .before .before .before .before)))
 size-is c =
     let h = hash-size (c .before .before) in
-    omega (arith, total-size (items (c .before .before .before .before .before .before .before)), c .before .endpoint-size .ensures .0, string-short (c .before .before .before .before .before .before .before .args .ping-hash .now) (omega arith) (omega arith), total-size (last (c .before .before .before .before .before .before .before)), c .last-size .ensures .0)
+    omega (arith, total-size (items (c .before .before .before .before .before .before .before)), c .before .endpoint-size .ensures .0, string-short (c .before .before .before .before .before .before .before .args .ping-hash .now) (λ o. omega arith) (omega arith), total-size (last (c .before .before .before .before .before .before .before)), c .last-size .ensures .0)
 
 begun : (c : tie.Then2) → Begun 2 (size (c .before .before)) (parts (c .before .before .before .before .before .before .before .before .before)) (c .before .before .before .before .before .before .before .before .before .args .buf .now)
 begun c = begin 2 (items (c .before .before .before .before .before .before .before .before .before)) (size-is (c .before .before)) (parts-are (c .before .before .before .before .before .before .before .before .before)) (omega (arith, c .if2 .taken, c .before .body-size .ensures))

@@ -66,7 +66,11 @@ pub fn fields(packet: &Packet) -> packet::Packet {
         Packet::Ping { version, from, from_udp, from_tcp, to, to_udp, expiration, enr_seq } => {
             packet::Packet::Ping {
                 version: *version,
-                from: packet::Endpoint { address: from.to_vec(), udp: *from_udp, tcp: *from_tcp },
+                from: packet::Sender {
+                    address: from.map(|address| address.to_vec()),
+                    udp: *from_udp,
+                    tcp: *from_tcp,
+                },
                 to: packet::Recipient { address: to.to_vec(), udp: *to_udp },
                 expiration: *expiration,
                 enr_seq: *enr_seq,

@@ -5,7 +5,7 @@
 use reference::calls::Call;
 use reference::generator::logs::{line, own_line};
 use reference::keccak::keccak256;
-use reference::packet::{body, joined, Endpoint, Node, Packet, Recipient};
+use reference::packet::{body, joined, Endpoint, Node, Packet, Recipient, Sender};
 use reference::table::{bucket_number, distance};
 
 /// The host's Unix time at box millisecond 0.
@@ -72,7 +72,14 @@ fn main() {
     };
     let ping = |from: &Peer, expiration| Packet::Ping {
         version: 4,
-        from: from.endpoint.clone(),
+        from: from.endpoint.clone().into(),
+        to: host.clone(),
+        expiration,
+        enr_seq: None,
+    };
+    let ping_from_nowhere = Packet::Ping {
+        version: 4,
+        from: Sender { address: None, udp: cora.endpoint.udp, tcp: cora.endpoint.tcp },
         to: host.clone(),
         expiration,
         enr_seq: None,
@@ -90,7 +97,7 @@ fn main() {
         sent(120, &bert, 2),
         rx(250, &anna, &pong(1)),
         rx(310, &bert, &pong(2)),
-        rx(400, &cora, &ping(&cora, expiration)),
+        rx(400, &cora, &ping_from_nowhere),
         sent(410, &cora, 3),
         rx(450, &anna, &find),
         rx(455, &anna_elsewhere, &find),

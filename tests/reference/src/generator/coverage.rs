@@ -10,7 +10,7 @@ use crate::packet::{self, Packet};
 
 /// Every case that is counted. A few seeds together must reach all of them.
 #[rustfmt::skip]
-pub const CASES: [&str; 45] = [
+pub const CASES: [&str; 46] = [
     "answer 0", "answer 1", "answer 2", "answer 3", "answer 4", "answer 5", "answer 6", "answer 7",
     "answer 8", "answer 9", "answer 10", "answer 11", "answer 12", "answer 13", "answer 14",
     "answer 15", "answer 16", "answer 17", "answer 18", "answer 21",
@@ -24,6 +24,7 @@ pub const CASES: [&str; 45] = [
     "proof of 43,200,000 ms verifies", "proof of 43,200,001 ms doesn't",
     "bucket with 16 and 4",
     "16-byte address accepted", "13 or more nodes accepted", "line of 3,000 bytes",
+    "ping from an unknown address accepted",
 ];
 
 #[derive(Default)]
@@ -150,10 +151,14 @@ impl Coverage {
             if address.len() == 16 {
                 self.raise("16-byte address accepted");
             }
-            if let Ok(Packet::Neighbors { nodes, .. }) = packet::read(datagram) {
-                if nodes.len() > 12 {
+            match packet::read(datagram) {
+                Ok(Packet::Neighbors { nodes, .. }) if nodes.len() > 12 => {
                     self.raise("13 or more nodes accepted");
                 }
+                Ok(Packet::Ping { from, .. }) if from.address.is_none() => {
+                    self.raise("ping from an unknown address accepted");
+                }
+                _ => {}
             }
         }
         let full = replay.table.as_ref().is_some_and(|table| {

@@ -40,7 +40,11 @@ pub fn data(random: &mut Random, number: u8, expiration: u64, ping_hash: &[u8]) 
     let mut items = match number {
         1 => {
             let version = if random.chance(80) { 4 } else { random.any_size() };
-            let from = Tree::List(endpoint(&random_endpoint(random)));
+            let mut from = random_endpoint(random);
+            if random.chance(20) {
+                from.address.clear(); // unknown
+            }
+            let from = Tree::List(endpoint(&from));
             let to = Tree::List(endpoint(&random_endpoint(random)));
             let mut items = vec![integer(version), from, to, expiration];
             items.extend(enr_seq);

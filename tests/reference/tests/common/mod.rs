@@ -53,7 +53,7 @@ pub fn keys(bucket: usize, count: usize) -> Vec<[u8; 64]> {
 pub fn ping(expiration: u64) -> Vec<u8> {
     let to = Recipient { address: V4.to_vec(), udp: PORT };
     let from = reference::packet::Endpoint { address: V4.to_vec(), udp: PORT, tcp: PORT };
-    packet(&Packet::Ping { version: 4, from, to, expiration, enr_seq: None })
+    packet(&Packet::Ping { version: 4, from: from.into(), to, expiration, enr_seq: None })
 }
 
 pub fn pong(ping_hash: &[u8]) -> Vec<u8> {
