@@ -139,6 +139,28 @@ uint32_t coghammer_join(uint8_t *buf, size_t buf_len, const uint8_t *signature, 
 // The Keccak-256 of a message. The host signs that of a body.
 void coghammer_keccak256(const uint8_t *message, size_t message_len, uint8_t hash[32]);
 
+// ---- boot lists: a node a line, `enode://`, 128 hex digits, `@`, a dotted IPv4 address, `:`, the TCP port, and `?discport=` and the UDP port if
+// that differs; a line ends in 0A, which the last may lack on reading
+
+// The places of `told`.
+enum {
+    COGHAMMER_TOLD_COUNT, // how many nodes were written
+    COGHAMMER_TOLD_END,   // 0 at the text's end, or 22 for a line that doesn't fit, or 19 for one that fits when the list is full
+    COGHAMMER_TOLD_LINE,  // the number of that line, counted from 1; 0 at the text's end
+    COGHAMMER_TOLD
+};
+
+// Writes the nodes of a text's lines to the front of a list, up to the first line that ends the reading. The records after the count stay as they
+// were. The answer number is always 0: told says how the reading ended.
+uint8_t coghammer_read_enodes(coghammer_node *list, size_t list_len, const uint8_t *text, size_t text_len, uint64_t told[COGHAMMER_TOLD]);
+
+// The most bytes of a line, with its 0A.
+#define COGHAMMER_ENODE_LINE 174
+
+// Writes the lines of so many nodes, and tells their size. The answer number is 0; 20 if one of the nodes has an address that isn't of 4 bytes; or 19.
+// Nothing is written where it isn't 0, neither lines nor a size.
+uint8_t coghammer_write_enodes(uint8_t *buf, size_t buf_len, const coghammer_node *nodes, size_t count, uint64_t size[1]);
+
 // ---- packed nodes: address length 1, address 16, UDP port 2, TCP port 2, key 64; numbers big-endian
 
 #define COGHAMMER_PACKED_NODE 85

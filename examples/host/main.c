@@ -1,5 +1,7 @@
-// host FOLDER [NODES] [MILLISECONDS]: so many discv4 nodes on loopback (3), for so long (2000). Node 0 is the boot node of the others.
+// host FOLDER [NODES] [MILLISECONDS] [BOOT]: so many discv4 nodes on loopback (3), for so long (2000). Their first nodes are those of the boot list
+// BOOT; without one it is FOLDER/boot.txt, which names node 0 and is always written, for this host's other nodes or for another host.
 // Each node's recording goes to FOLDER/node-N.log, and what the library answered, with the table's printout, to FOLDER/node-N.out.
+#include "boot.h"
 #include "node.h"
 #include <poll.h>
 #include <stdlib.h>
@@ -9,6 +11,8 @@ enum { MOST_NODES = 64, MOST_DATAGRAMS = 100000, JOIN_EVERY = 20, SWEEP_EVERY = 
 
 static node nodes[MOST_NODES];
 static struct pollfd sockets[MOST_NODES];
+static coghammer_node boot[MOST_BOOT];
+static size_t boot_count;
 
 static unsigned long argument(const char *text, unsigned long low, unsigned long high) {
     char *end;
@@ -20,13 +24,19 @@ static unsigned long argument(const char *text, unsigned long low, unsigned long
     return n;
 }
 
-// What a node does by the clock. One node after the other joins: as long as it knows no other, it pings the boot node.
+// Pings the nodes of the boot list, but not itself.
+static void ping_boot(node *n) {
+    for (size_t i = 0; i < boot_count; i++)
+        if (memcmp(boot[i].key, n->self.key, 64)) node_ping(n, &boot[i]);
+}
+
+// What a node does by the clock. One node after the other joins: as long as it knows no other, it pings the nodes of the boot list.
 static void by_the_clock(unsigned i, uint64_t now) {
     static uint64_t asked[MOST_NODES], swept[MOST_NODES]; // how often
     uint64_t joined = i * JOIN_EVERY;
     if (now >= joined + asked[i] * ASK_EVERY) {
         asked[i]++;
-        if (node_ask(&nodes[i]) == 0 && i > 0) node_ping(&nodes[i], &nodes[0].self);
+        if (node_ask(&nodes[i]) == 0) ping_boot(&nodes[i]);
     }
     if (now >= joined + (swept[i] + 1) * SWEEP_EVERY) {
         swept[i]++;
@@ -64,8 +74,8 @@ static void report(unsigned count, unsigned received) {
 }
 
 int main(int argc, char **argv) {
-    if (argc < 2 || argc > 4) {
-        fprintf(stderr, "usage: host FOLDER [NODES] [MILLISECONDS]\n");
+    if (argc < 2 || argc > 5) {
+        fprintf(stderr, "usage: host FOLDER [NODES] [MILLISECONDS] [BOOT]\n");
         return 2;
     }
     unsigned count = argc > 2 ? (unsigned)argument(argv[2], 2, MOST_NODES) : 3;
@@ -74,6 +84,10 @@ int main(int argc, char **argv) {
         node_open(&nodes[i], argv[1], i);
         sockets[i] = (struct pollfd){.fd = nodes[i].socket, .events = POLLIN};
     }
+    char own[4096];
+    snprintf(own, sizeof own, "%s/boot.txt", argv[1]);
+    boot_write(own, &nodes[0].self);
+    boot_count = boot_read(argc > 4 ? argv[4] : own, boot);
     unsigned received = run(count, millis);
     report(count, received);
     for (unsigned i = 0; i < count; i++) node_close(&nodes[i]);

@@ -182,6 +182,73 @@ static void neighbors(void) {
     CHECK(all(key, 64, 0) && all(at, 16, 0) && numbers[0] == 0 && numbers[1] == 0 && numbers[2] == 0);
 }
 
+// A boot list read and written, and texts and nodes that can't be.
+static void boot_lists(void) {
+    enum { ROOM = 2 * COGHAMMER_ENODE_LINE };
+    static const char digits[] = "0123456789abcdef0123456789ABCDEF0123456789abcdef0123456789ABCDEF"
+                                 "0123456789abcdef0123456789ABCDEF0123456789abcdef0123456789ABCDEF";
+    static const char *const places[] = {"192.0.2.7:30303", "255.255.255.255:65535?discport=65534"};
+    coghammer_node list[3], kept[3];
+    uint64_t told[COGHAMMER_TOLD];
+    char text[ROOM + 1];
+    uint8_t buf[ROOM];
+    int len = snprintf(text, sizeof text, "enode://%s@%s\nenode://%s@%s\n", digits, places[0], digits, places[1]), first = 8 + 128 + 1 + 15 + 1;
+    CHECK(len == first + COGHAMMER_ENODE_LINE && COGHAMMER_TOLD == 3);
+    memset(kept, 0xee, sizeof kept);
+
+    // both lines, with the last 0A and without
+    for (int less = 0; less < 2; less++) {
+        memcpy(list, kept, sizeof list);
+        CHECK(coghammer_read_enodes(list, 3, (uint8_t *)text, (size_t)(len - less), told) == 0);
+        CHECK(told[COGHAMMER_TOLD_COUNT] == 2 && told[COGHAMMER_TOLD_END] == 0 && told[COGHAMMER_TOLD_LINE] == 0);
+        CHECK(list[0].key[0] == 0x01 && list[0].key[15] == 0xef && list[0].key[63] == 0xef && memcmp(list[0].key, list[1].key, 64) == 0);
+        CHECK(list[0].endpoint.len == 4 && memcmp(list[0].endpoint.address, address, 4) == 0 && all(list[0].endpoint.address + 4, 12, 0));
+        CHECK(list[0].endpoint.udp == 30303 && list[0].endpoint.tcp == 30303 && list[1].endpoint.udp == 65534 && list[1].endpoint.tcp == 65535);
+        CHECK(memcmp(&list[2], &kept[2], sizeof list[2]) == 0);
+    }
+
+    // written: lower case, and the text reads back
+    memset(buf, 0xaa, ROOM);
+    uint64_t size = 77;
+    CHECK(coghammer_write_enodes(buf, (size_t)len - 1, list, 2, &size) == 19 && coghammer_write_enodes(buf, 0, list, 1, &size) == 19);
+    CHECK(coghammer_write_enodes(buf, ROOM, list, 3, &size) == 20 && coghammer_write_enodes(buf, 0, list + 2, 1, &size) == 20);
+    CHECK(size == 77 && all(buf, ROOM, 0xaa));
+    CHECK(coghammer_write_enodes(buf, ROOM, list, 0, &size) == 0 && size == 0);
+    CHECK(coghammer_write_enodes(buf, (size_t)len, list, 2, &size) == 0 && size == (uint64_t)len);
+    for (int i = 0; i < len; i++)
+        if (text[i] >= 'A' && text[i] <= 'F') text[i] = (char)(text[i] + 32);
+    CHECK(memcmp(buf, text, (size_t)len) == 0 && all(buf + len, (size_t)(ROOM - len), 0xaa));
+    coghammer_node six = list[0];
+    six.endpoint.len = 16;
+    CHECK(coghammer_write_enodes(buf, ROOM, &six, 1, &size) == 20 && size == (uint64_t)len);
+
+    // a full list, and lines that don't fit
+    struct {
+        size_t room, len;
+        char *at, byte;
+        uint64_t count, end, line;
+    } cases[] = {
+        {1, (size_t)len, text, 'e', 1, 19, 2},
+        {0, (size_t)len, text, 'e', 0, 19, 1},
+        {0, (size_t)len, text, 'E', 0, 22, 1},
+        {1, (size_t)len, text + first, 'E', 1, 22, 2},
+        {3, (size_t)len, text + first, '\n', 1, 22, 2},
+        {3, (size_t)len - 1, text + len - 2, '5', 1, 22, 2}, // discport=65535 equals the TCP port
+        {3, (size_t)len, text + len - 1, '\r', 1, 22, 2},
+        {3, (size_t)first - 2, text, 'e', 1, 0, 0}, // port 3030
+        {3, 0, text, 'e', 0, 0, 0},
+    };
+    for (size_t i = 0; i < sizeof cases / sizeof cases[0]; i++) {
+        char old = *cases[i].at;
+        *cases[i].at = cases[i].byte;
+        memcpy(list, kept, sizeof list);
+        CHECK(coghammer_read_enodes(list, cases[i].room, (uint8_t *)text, cases[i].len, told) == 0);
+        CHECK(told[0] == cases[i].count && told[1] == cases[i].end && told[2] == cases[i].line);
+        CHECK(memcmp(list + told[0], kept + told[0], (3 - told[0]) * sizeof list[0]) == 0);
+        *cases[i].at = old;
+    }
+}
+
 static void head(uint8_t number, uint64_t len, uint64_t out, uint64_t since) {
     uint8_t key[64], at[16];
     uint64_t numbers[5];
@@ -279,6 +346,7 @@ int main(void) {
     fresh();
     writers();
     neighbors();
+    boot_lists();
     calls();
     unsound();
     printf("%d checks, %d failed\n", checks, failures);

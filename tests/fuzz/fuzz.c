@@ -1,5 +1,6 @@
 // fuzz SECONDS [SEED]: drives the functions of include/coghammer.h with sound, mutated and random tables, with datagrams mutated from valid
-// ones, and with rooms of every size, for so long. The last line says how many calls were made; the exit status is not 0 where a check failed.
+// ones, with boot lists, and with rooms of every size, for so long. The last line says how many calls were made; the exit status is not 0
+// where a check failed.
 //
 // Every call is made twice, with its memory lent in two ways, and must answer the same and leave the same bytes. A block is lent on the heap
 // in its exact size, where the sanitizer watches, or right before or right behind a page that may not be touched: the library itself is
@@ -180,6 +181,15 @@ static uint64_t keccak256(uint8_t **p, const size_t *len, const uint64_t *n) {
     (void)n;
     coghammer_keccak256(p[0], len[0], p[1]);
     return 0;
+}
+
+static uint64_t read_enodes(uint8_t **p, const size_t *len, const uint64_t *n) {
+    (void)n;
+    return coghammer_read_enodes((coghammer_node *)p[0], len[0] / sizeof(coghammer_node), p[1], len[1], (uint64_t *)p[2]);
+}
+static uint64_t write_enodes(uint8_t **p, const size_t *len, const uint64_t *n) {
+    (void)n;
+    return coghammer_write_enodes(p[0], len[0], (coghammer_node *)p[1], len[1] / sizeof(coghammer_node), (uint64_t *)p[2]);
 }
 
 // ---- a table, and nodes around it
@@ -385,6 +395,82 @@ static void rooms(unsigned type, const peer *to) {
     }
 }
 
+// ---- boot lists
+
+enum { NODES = 40, TEXT = (NODES + 2) * COGHAMMER_ENODE_LINE };
+
+static coghammer_node boot[NODES], boot_before[NODES], boot_after[NODES];
+static uint8_t text[TEXT], text_before[TEXT];
+static uint64_t ends[23]; // readings by how they ended
+
+static size_t write_text(size_t space, size_t count) {
+    uint64_t before = 77, size = 77;
+    uint64_t number = call(write_enodes, (lent[6]){{text, space, text}, {boot, count * sizeof boot[0], NULL}, {&before, sizeof before, &size}}, NULL);
+    bool writable = true;
+    for (size_t i = 0; i < count; i++) writable &= boot[i].endpoint.len == 4;
+    check(writable ? number == 0 || number == 19 : number == 20, "a list was written with another number");
+    check(number == 0 || size == before, "a refused list has a size");
+    check(number || size <= space, "a list is longer than its room");
+    size_t written = number ? 0 : size;
+    check(memcmp(text + written, text_before + written, TEXT - written) == 0, "bytes past the lines changed");
+    return number ? SIZE_MAX : written;
+}
+
+// Reads a text into a list; how many records it wrote.
+static size_t read_text(size_t len, size_t count) {
+    uint64_t before[COGHAMMER_TOLD], told[COGHAMMER_TOLD];
+    fill((uint8_t *)before, sizeof before);
+    fill((uint8_t *)boot_before, sizeof boot_before);
+    uint64_t number = call(read_enodes, (lent[6]){{boot_before, count * sizeof boot[0], boot_after}, {text, len, NULL}, {before, sizeof before, told}}, NULL);
+    size_t found = told[COGHAMMER_TOLD_COUNT];
+    uint64_t end = told[COGHAMMER_TOLD_END];
+    check(number == 0, "a reading was refused");
+    check(end == 0 || end == 19 || end == 22, "a reading ended with another number");
+    check(found <= count && (end != 19 || found == count), "a reading counted wrong");
+    check(told[COGHAMMER_TOLD_LINE] == (end ? found + 1 : 0), "a reading ended at another line");
+    check(memcmp(boot_before + found, boot_after + found, (count - found) * sizeof boot[0]) == 0, "records after the count changed");
+    for (size_t i = 0; i < found; i++) check(boot_after[i].endpoint.len == 4, "a node that no line says");
+    ends[end]++;
+    return end ? SIZE_MAX : found;
+}
+
+// A node has a byte that no field names, so that fields are compared. Behind the four bytes of its address are zeros.
+static bool is_read_back(const coghammer_node *written, const coghammer_node *read) {
+    static const uint8_t zeros[12];
+    const coghammer_endpoint *a = &written->endpoint, *b = &read->endpoint;
+    bool key = memcmp(written->key, read->key, 64) == 0, address = memcmp(a->address, b->address, 4) == 0 && memcmp(b->address + 4, zeros, 12) == 0;
+    return key && address && a->udp == b->udp && a->tcp == b->tcp;
+}
+
+// A list is written in rooms about its size, its text read back, and read again with some bytes changed.
+static void boot_list(void) {
+    static const uint8_t nasty[] = "0123456789abfgAFG.:?@=/ \n\n\n\r\t";
+    size_t count = below(NODES + 1);
+    fill((uint8_t *)boot, sizeof boot);
+    for (size_t i = 0; i < NODES; i++) {
+        boot[i].endpoint.len = 4;
+        if (chance(90)) memset(boot[i].endpoint.address + 4, 0, 12);
+        if (chance(60)) boot[i].endpoint.udp = boot[i].endpoint.tcp;
+    }
+    if (chance(10) && count) boot[below(count)].endpoint.len = (uint8_t)any();
+    fill(text_before, TEXT);
+    memcpy(text, text_before, TEXT);
+    size_t len = write_text(TEXT, count);
+    if (len == SIZE_MAX) return;
+    for (int i = 0; i < 3; i++) {
+        static uint8_t whole[TEXT];
+        size_t space = i == 0 ? len : i == 1 ? len - (len > 0) : below(len + 1);
+        memcpy(whole, text, TEXT);
+        memcpy(text, text_before, TEXT);
+        check((write_text(space, count) == len) == (space >= len), "a list was written in a room that is too short, or not in one that is not");
+        memcpy(text, whole, TEXT);
+    }
+    check(read_text(len - (len > 0 && chance(50)), count + below(NODES + 1 - count)) == count, "what was written is not read");
+    for (size_t i = 0; i < count; i++) check(is_read_back(&boot[i], &boot_after[i]), "what was written is read as another node");
+    for (size_t turns = 1 + below(3); turns && len; turns--) text[below(len)] = chance(80) ? nasty[below(sizeof nasty - 1)] : (uint8_t)any();
+    read_text(chance(80) ? len : below(TEXT), below(NODES + 1));
+}
+
 // ---- calls on tables
 
 static uint64_t receive(uint8_t *memory, size_t len, const peer *from, uint64_t clock) {
@@ -511,12 +597,14 @@ int main(int argc, char **argv) {
             if (what < 75) sound_step();
             else if (what < 88) mutated_step();
             else if (what < 93) random_step();
+            else if (what < 96) boot_list();
             else small_calls();
         }
         clock_gettime(CLOCK_MONOTONIC, &t);
     } while ((double)(t.tv_sec - start.tv_sec) + (double)(t.tv_nsec - start.tv_nsec) / 1e9 < seconds);
     printf("counted calls by answer:");
     for (int i = 0; i < 19; i++) printf(" %d: %" PRIu64 "%s", i, reached[i], i < 18 ? "," : "\n");
+    printf("boot lists read by end: 0: %" PRIu64 ", 19: %" PRIu64 ", 22: %" PRIu64 "\n", ends[0], ends[19], ends[22]);
     printf("seed %" PRIu64 ": %" PRIu64 " calls on %u tables, nothing failed\n", seed, calls, tables);
     return 0;
 }

@@ -11,7 +11,7 @@ ghost use Rattle.call_datagram.specs.Received.{received};
 ghost use Rattle.packet_span.specs.Parts as span;
 ghost use Rattle.packet_fields.specs.Spans as spans;
 ghost use Rattle.packet_datagram.specs.Datagram.{packetIn};
-ghost use Rattle.written.specs.Written.{written, writtenIn};
+ghost use Rattle.written.specs.Written.{written, writtenIn, writtenNumber};
 ghost use Rattle.packet_bodies.specs.Writers.{canPing, pingBody, canPong, pongBody, canFindNode, findNodeBody, neighborsBody, enrRequestBody, canEnrResponse, enrResponseBody};
 ghost use Rattle.packet_join.specs.Join as joining;
 ghost use Rattle.packet_reply.specs.Reply.{replyCount, replyPart};
@@ -22,6 +22,9 @@ ghost use Rattle.capi_codes.specs.Codes.{numberIn, receivedCode, listedCode, wr
 ghost use Rattle.capi_packet.specs.Fields.{readNumber, fieldsAfter, nodeNumbers};
 ghost use Rattle.capi_head.specs.Head.{headNumber, headOn, unlessRefused};
 ghost use Rattle.capi_nodes.specs.Packed.{packedList, canPacked};
+ghost use Rattle.enode.specs.Lists.{canBoot, bootText};
+ghost use Rattle.enode_list.specs.List as boots;
+ghost use Rattle.capi_enode.specs.Told.{toldBoot, sizeAfter};
 use counters::Counters;
 use node::Node;
 use packet_span::Span;
@@ -323,4 +326,30 @@ pub extern "C" fn coghammer_keccak256(message: &[u8], hash: &mut [u8; 32])
     ensures { λ _. ⌜ now (hash .exit) ≡ sponge.keccak256 (now (message .entry)) ⌝ }
 {
     *hash = discv4::keccak256(message);
+}
+
+// ---- boot lists
+
+// Reads the nodes of enode lines to the front of the list. Always 0. Told: how many records the list received, the number of the reading's
+// end (0, 22 or 19), and its line, counted from 1, or 0.
+#[no_mangle]
+pub extern "C" fn coghammer_read_enodes(list: &mut [Node], text: &[u8], told: &mut [u64; 3]) -> u8
+    ensures { λ r. ⌜ r ≡ 0 ⌝ }
+    ensures { λ _. ⌜ now (list .exit) ≡ boots.listAfter (now (text .entry)) (now (list .entry)) ⌝ }
+    ensures { λ _. ⌜ now (told .exit) ≡ toldBoot (boots.boot (length (now (list .entry))) (now (text .entry))) ⌝ }
+{
+    let boot = discv4::read_enodes(list, text);
+    capi_enode::tell_read(told, boot)
+}
+
+// Writes the enode lines of the nodes, each with its 0A. The answer number: 0 and the size is how many bytes they are; or 19 or 20 and
+// nothing is written.
+#[no_mangle]
+pub extern "C" fn coghammer_write_enodes(buf: &mut [u8], nodes: &[Node], size: &mut [u64; 1]) -> u8
+    ensures { λ r. ⌜ r ≡ writtenNumber (written (canBoot (now (nodes .entry))) (bootText (now (nodes .entry))) (now (buf .entry))) ⌝ }
+    ensures { λ _. ⌜ now (buf .exit) ≡ writtenIn (canBoot (now (nodes .entry))) (bootText (now (nodes .entry))) (now (buf .entry)) ⌝ }
+    ensures { λ _. ⌜ now (size .exit) ≡ sizeAfter (written (canBoot (now (nodes .entry))) (bootText (now (nodes .entry))) (now (buf .entry))) (now (size .entry)) ⌝ }
+{
+    let answer = discv4::write_enodes(buf, nodes);
+    capi_enode::tell_written(size, answer)
 }

@@ -61,6 +61,17 @@ pub use packet_model::EnrSeq;
 pub use packet_span::Span;
 pub use packet_span::bytes_of as field_part;
 
+// ---- boot lists
+// `read_enodes` fills a lent list of nodes from enode lines, `write_enodes` writes a list as such lines; `read_enode` and `write_enode` are the same of one.
+pub use enode::Enode;
+pub use enode::read_enode;
+pub use enode_list::Boot;
+pub use enode_list::End;
+pub use enode_list::end_number;
+pub use enode_list::read_enodes;
+pub use enode_write::write_enode;
+pub use enode_write_list::write_enodes;
+
 // ---- clocks and nodes
 pub use entry::PingState;
 pub use node::Endpoint;

@@ -12,8 +12,9 @@ use Rattle.octets.specs.Octets.{Bytes, store}
 use Rattle.octets.proofs.Laws.{store-eq, length-store}
 use Rattle.lists.specs.Lists.{empty}
 use Rattle.lists.proofs.Laws.{byTest, and-right}
+use Rattle.text.specs.Lines.{linesFrom}
 use Rattle.log_lines.specs.declared.Begun.{Begun}
-use Rattle.log_lines.specs.Lines.{linesFrom, limit, Held, whole, tooLong, held, longer, nothing, toCome}
+use Rattle.log_lines.specs.Lines.{limit, Held, whole, tooLong, held, longer, nothing, toCome}
 use Rattle.log_lines.specs.Steps.{piece, fits, grown, added, stepOf, bufferAfter, lastOf}
 use Rattle.log_lines.specs.Feeding.{heldIn, Room, told, toldLast}
 use Rattle.log_lines.proofs.Pieces.{Ends, here, newline, ends}

@@ -2,3 +2,4 @@ pub mod Pieces
 pub mod Steps
 pub mod Laws
 pub mod Chunks
+pub mod Found

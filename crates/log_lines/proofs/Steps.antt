@@ -1,20 +1,27 @@
 -- What `next_line` finds is the step. Assumes nothing.
 use Prim.Native.Nat.{ℕ, _+_, _-_, _<_}
-use mathlib.Core.Path.{_≡_, ap, _∙_}
+use mathlib.Core.Path.{_≡_, refl, ap, _∙_}
 use mathlib.Core.Bool.{true, false}
 use native.Mathlib.Omega.{arith}
 use borrow.Author.Tests.{lt-ltb, le-ltb}
 use lib.ListN.{length, take, drop}
 use Rattle.octets.specs.Octets.{Bytes}
+use Rattle.text.specs.Marks.{until}
+use Rattle.text.proofs.Marks.{take-until}
 use Rattle.log_lines.specs.declared.Begun.{Begun}
 use Rattle.log_lines.specs.declared.Step.the-variants.{Line, TooLong, More}
 use Rattle.log_lines.specs.Steps.{piece, grown, added, stepOf, bufferAfter}
-use Rattle.log_lines.proofs.Pieces.{take-piece}
+
+-- the piece from an index is what stands before the next 0A
+pub cut-at : (chunk : Bytes) (at : ℕ) → at + length (until 0x0a at chunk) ≡ at + length (piece (drop at chunk))
+unfolding piece until
+cut-at chunk at = refl
 
 module _ (buffer : Bytes) (b : Begun) (chunk : Bytes) (at end : ℕ) (e : end ≡ at + length (piece (drop at chunk))) where
   -- the part that is added is the piece
   same-piece : take (end - at) (drop at chunk) ≡ piece (drop at chunk)
-  same-piece = let n : end - at ≡ length (piece (drop at chunk)) = omega arith in rw n (take-piece (drop at chunk))
+  unfolding piece until
+  same-piece = take-until 0x0a chunk at end e
 
   pub buffer-is : (after : Bytes) → after ≡ added buffer b (take (end - at) (drop at chunk)) → after ≡ bufferAfter buffer b chunk at
   unfolding bufferAfter

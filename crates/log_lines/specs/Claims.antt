@@ -5,7 +5,8 @@ use mathlib.Core.Path.{_≡_}
 use mathlib.Core.List.{List, _++_, map}
 use lib.ListN.{length}
 use Rattle.octets.specs.Octets.{Bytes}
-use Rattle.log_lines.specs.Lines.{linesOf, limit, Held, held}
+use Rattle.text.specs.Lines.{linesOf}
+use Rattle.log_lines.specs.Lines.{limit, Held, held}
 use Rattle.log_lines.specs.Steps.{fresh}
 use Rattle.log_lines.specs.Feeding.{Feeds, join}
 

@@ -7,15 +7,6 @@ use lib.ListN.{length}
 use Rattle.octets.specs.Octets.{Bytes}
 use Rattle.lists.specs.Lists.{empty}
 
--- the lines of p ++ s, where p has no 0A: a last line without 0A counts if it has a byte
-abbrev pub linesFrom : Bytes → Bytes → List Bytes
-linesFrom p [] = cond (empty p) [] (p ∷ [])
-linesFrom p (b ∷ s) = cond (eqb b 0x0a) (p ∷ linesFrom [] s) (linesFrom (p ++ (b ∷ [])) s)
-
--- the lines of a log, without their 0A
-abbrev pub linesOf : Bytes → List Bytes
-linesOf log = linesFrom [] log
-
 abbrev pub limit : ℕ
 limit = 3000
 

@@ -1,11 +1,12 @@
 // The lines of a log that comes in chunks of any size. A line of at most 3,000 bytes is kept in a lent buffer, and of a longer one only that it is.
 ghost use mathlib.Core.Path.{_≡_};
-ghost use Prim.Native.Nat.{_+_, _≤_};
-ghost use lib.ListN.{length, drop};
+ghost use Prim.Native.Nat.{_≤_};
+ghost use lib.ListN.{length};
 ghost use Rattle.log_lines.specs.Lines.{limit};
-ghost use Rattle.log_lines.specs.Steps.{piece, grown, added, stepOf, bufferAfter, lastOf};
+ghost use Rattle.log_lines.specs.Steps.{grown, added, stepOf, bufferAfter, lastOf};
 ghost use Rattle.log_lines.specs.Steps as spec;
 use octets::put_bytes;
+use text::find;
 
 // The most bytes of a line, without its 0A.
 pub const LIMIT: usize = 3000;
@@ -47,22 +48,6 @@ pub enum Last {
     Nothing,
 }
 
-// The index of the next 0A from `at` on, or the chunk's end.
-fn piece_end(chunk: &[u8], at: usize) -> usize
-    requires { ⌜ at ≤ length (now chunk) ⌝ }
-    ensures end { λ r. ⌜ r ≡ at + length (piece (drop at (now (chunk .entry)))) ⌝ }
-    ensures within { λ r. ⌜ r ≤ length (now (chunk .entry)) ⌝ }
-{
-    let mut i = at;
-    while i < chunk.len() {
-        if chunk[i] == 10 {
-            return i;
-        }
-        i += 1;
-    }
-    i
-}
-
 // The line begun with a piece more, which is stored where it finds room.
 fn add_piece(buffer: &mut [u8], begun: Begun, piece: &[u8]) -> Begun
     requires { ⌜ (limit ≤ length (now buffer)) × (begun .len ≤ limit) ⌝ }
@@ -89,7 +74,7 @@ pub fn next_line(buffer: &mut [u8], begun: Begun, chunk: &[u8], at: usize) -> St
     ensures step { λ r. ⌜ r ≡ stepOf begun (now (chunk .entry)) at ⌝ }
     ensures bytes { λ _. ⌜ now (buffer .exit) ≡ bufferAfter (now (buffer .entry)) begun (now (chunk .entry)) at ⌝ }
 {
-    let end = piece_end(chunk, at);
+    let end = find(chunk, at, 10);
     let more = add_piece(buffer, begun, &chunk[at..end]);
     if end == chunk.len() {
         return Step::More(more);

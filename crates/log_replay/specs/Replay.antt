@@ -3,7 +3,8 @@ use mathlib.Core.Bool.{cond}
 use mathlib.Core.List.{List, [], _∷_, _++_, map}
 use Rattle.octets.specs.Octets.{Bytes}
 use Rattle.lists.specs.Lists.{empty}
-use Rattle.log_lines.specs.Lines.{linesOf, Held, whole, tooLong, held}
+use Rattle.text.specs.Lines.{linesOf}
+use Rattle.log_lines.specs.Lines.{Held, whole, tooLong, held}
 use Rattle.log_line.specs.declared.Line.{Line}
 use Rattle.log_line.specs.declared.Line.the-variants.{Own, Rx, Sent, Sweep, Unreadable}
 use Rattle.log_line.specs.Fields.{said}

@@ -64,3 +64,6 @@ pub const NOT_WRITABLE: u8 = 20;
 
 // A line of a log that can't be read.
 pub const UNREADABLE: u8 = 21;
+
+// A line of a boot list that isn't an enode line.
+pub const NOT_ENODE: u8 = 22;

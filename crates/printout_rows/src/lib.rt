@@ -46,8 +46,7 @@ pub fn decimal_field(out: &mut [u8], at: usize, n: u64) -> usize
     ensures next { λ r. ⌜ r ≡ at + length (0x09 ∷ decimal n) ⌝ }
     ensures bytes { λ _. ⌜ now (out .exit) ≡ store (now (out .entry)) at (0x09 ∷ decimal n) ⌝ }
 {
-    out[at] = b'\t';
-    text::put_decimal(out, at + 1, n)
+    text::put_marked(out, at, b'\t', n)
 }
 
 // A field that is hex.

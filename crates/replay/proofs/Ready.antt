@@ -9,6 +9,7 @@ use Rattle.octets.proofs.Laws.{length-store}
 use Rattle.log_lines.specs.Lines.{Held}
 use Rattle.log_lines.specs.declared.Begun.{Begun}
 use Rattle.log_lines.specs.Steps.{fresh}
+use Rattle.log_lines.proofs.Found.{fresh-size}
 use Rattle.log_answer.specs.AnswerRows.{answerRoom}
 use Rattle.log_state.specs.declared.Replay.{Replay}
 use Rattle.log_state.specs.declared.Stepped.{Stepped}
@@ -18,9 +19,6 @@ use Rattle.log_replay.specs.Steps.{startReplay, AnsweredLine}
 use Rattle.log_replay.proofs.Replayed.{start-state}
 use Rattle.replay.specs.declared.Progress.{Progress}
 use Rattle.replay.specs.Steps.{Ready}
-
-fresh-size : (b : Begun) → b ≡ fresh → b .len ≤ 3000
-fresh-size b e = let n : b .len ≡ 0 = ap (λ (x : Begun). x .len) e in omega arith
 
 -- before the first line
 pub at-start : (memory buffer out : Bytes) (replay : Replay) (b : Begun) → 46304 ≡ length memory → 3000 ≡ length buffer → 65536 ≡ length out

@@ -13,7 +13,8 @@ use lib.ListN.{length, getD, set, length-append}
 use lib.Seq.{append-snoc}
 use Rattle.octets.specs.Octets.{Bytes, store}
 use Rattle.octets.proofs.Laws.{store-last}
-use Rattle.lists.proofs.Laws.{byTest, never, and-left, and-right}
+use Rattle.lists.specs.Lists.{All}
+use Rattle.lists.proofs.Laws.{byTest, never, and-left, and-right, All-append, All-imp}
 use Rattle.text.specs.declared.Decimal.the-variants.{Value, NotDecimal}
 use Rattle.text.specs.Decimals.{digits, decimal, isDigit, digitsFrom, wellBegun, decimalOf}
 use Rattle.text.specs.Claims.{DecimalRead, DecimalSound}
@@ -66,6 +67,29 @@ length-least n = elim (decLt n 10) [
   | yes l ↦ omega (arith, length-one n l)
   | no g ↦ omega (arith, length-more n (omega arith))
 ]
+
+-- all of a decimal is digits
+pub all-digits : (n : ℕ) → All (λ (b : ℕ). (48 ≤ b) × (b ≤ 57)) (decimal n)
+all-digits n = below (suc n) n (omega arith)
+  where
+    below : (k n : ℕ) → n < k → All (λ (b : ℕ). (48 ≤ b) × (b ≤ 57)) (decimal n)
+    below zero n h = absurd (omega arith)
+    below (suc k) n h = elim (decLt n 10) [
+      | yes l ↦ rw (decimal-one n l) ((omega arith, omega arith), tt)
+      | no g ↦ rw (decimal-more n (omega arith))
+          (All-append (λ (b : ℕ). (48 ≤ b) × (b ≤ 57)) (decimal (n / 10)) ((48 + n % 10) ∷ []) (below k (n / 10) (omega arith)) ((omega arith, omega arith), tt))
+    ]
+
+-- and has no byte in it that is no digit
+pub no-mark : (mark n : ℕ) → isDigit mark ≡ false → All (λ (b : ℕ). eqb b mark ≡ false) (decimal n)
+no-mark mark n h =
+    All-imp (λ (b : ℕ). (48 ≤ b) × (b ≤ 57)) (λ (b : ℕ). eqb b mark ≡ false)
+    (λ b d. ne-eqb b mark (λ e. never (sym (rw e at (digit-is b d)) ∙ h)))
+    (decimal n)
+    (all-digits n)
+  where
+    digit-is : (b : ℕ) → (48 ≤ b) × (b ≤ 57) → isDigit b ≡ true
+    digit-is b d = rw (le-leb 48 b (d .0), le-leb b 57 (d .1))
 
 -- the last digit of a decimal is written first
 pub store-decimal : (s : Bytes) (at n i : ℕ) → 10 ≤ n → i + 1 ≡ at + length (decimal n) → store (set s i (48 + n % 10)) at (decimal (n / 10)) ≡ store s at (decimal n)

@@ -2,7 +2,7 @@
 use Prim.Native.Nat.{ℕ, zero, suc, _+_, _*_, _/_, _%_, _≤_, _<_}
 use mathlib.Core.Path.{_≡_, refl, sym, ap, _∙_}
 use mathlib.Core.Bool.{true, false, not, _&&_}
-use mathlib.Core.List.{[], _∷_, _++_}
+use mathlib.Core.List.{[], _∷_, _++_, map}
 use mathlib.Core.Logic.{_⊎_, inl, inr, ⊎-elim}
 use native.Mathlib.Decide.{decLt}
 use native.Mathlib.Omega.{arith}
@@ -14,9 +14,9 @@ use lib.ListN.{length, getD, take, drop, set, drop-of-length-le}
 use lib.Seq.{drop-cons, take-suc}
 use Rattle.octets.specs.Octets.{Bytes, IsBytes, store}
 use Rattle.octets.proofs.Laws.{store-append}
-use Rattle.lists.specs.Lists.{empty}
+use Rattle.lists.specs.Lists.{all, empty}
 use Rattle.lists.proofs.Laws.{byTest, never, and-left, and-right}
-use Rattle.text.specs.Hex.{hexDigit, hex, isHexDigit, hexPairs, isHex, hexValue, unhex}
+use Rattle.text.specs.Hex.{hexDigit, hex, isHexDigit, isAnyHexDigit, lower, hexPairs, isHex, hexValue, unhex}
 use Rattle.text.specs.Claims.{HexRead, HexSound}
 
 -- ---- digits
@@ -85,6 +85,68 @@ pairs-sound (a ∷ b ∷ s) h =
 pub hex-sound : HexSound
 unfolding isHex
 hex-sound s h = pairs-sound s (and-right (not (empty s)) (hexPairs s) h)
+
+-- ---- digits of either case
+
+-- what the test of a digit of either case says
+any-upper : (b : ℕ) → (leb 65 b && leb b 70) ≡ true → (65 ≤ b) × (b ≤ 70)
+any-upper b e = (leb-true 65 b (and-left (leb 65 b) (leb b 70) e), leb-true b 70 (and-right (leb 65 b) (leb b 70) e))
+
+lower-digit : (b : ℕ) → isAnyHexDigit b ≡ true → isHexDigit (lower b) ≡ true
+lower-digit b h =
+    byTest (leb 65 b && leb b 70)
+    (λ e.
+    let r : (65 ≤ b) × (b ≤ 70) = any-upper b e in
+    rw (e, le-leb 48 (b + 32) (omega arith), lt-leb (b + 32) 57 (omega arith), le-leb 97 (b + 32) (omega arith), le-leb (b + 32) 102 (omega arith)))
+    (λ e. rw e (rw e at h))
+
+digit-lower : (b : ℕ) → isHexDigit (lower b) ≡ true → isAnyHexDigit b ≡ true
+digit-lower b h = byTest (leb 65 b && leb b 70) (λ e. rw e) (λ e. rw e (rw e at h))
+
+value-lower : (b : ℕ) → hexValue (lower b) ≡ hexValue b
+unfolding hexValue
+value-lower b =
+    byTest (leb 65 b && leb b 70)
+    (λ e.
+    let r : (65 ≤ b) × (b ≤ 70) = any-upper b e in
+    rw (e, le-ltb (b + 32) 58 (omega arith), le-ltb b 58 (omega arith)) (omega arith))
+    (λ e. rw e)
+
+-- the case says nothing
+pub unhex-lower : (s : Bytes) → unhex (map lower s) ≡ unhex s
+unfolding unhex
+unhex-lower [] = refl
+unhex-lower (a ∷ []) = refl
+unhex-lower (a ∷ b ∷ s) = rw (value-lower a, value-lower b, unhex-lower s)
+
+pairs-lower : (s : Bytes) → length s % 2 ≡ 0 → all isAnyHexDigit s ≡ true → hexPairs (map lower s) ≡ true
+pairs-lower [] h d = refl
+pairs-lower (a ∷ []) h d = absurd (omega arith)
+pairs-lower (a ∷ b ∷ s) h d =
+    let more : all isAnyHexDigit (b ∷ s) ≡ true = and-right (isAnyHexDigit a) (all isAnyHexDigit (b ∷ s)) d in
+    rw (
+      lower-digit a (and-left (isAnyHexDigit a) (all isAnyHexDigit (b ∷ s)) d),
+      lower-digit b (and-left (isAnyHexDigit b) (all isAnyHexDigit s) more),
+    ) (pairs-lower s (omega arith) (and-right (isAnyHexDigit b) (all isAnyHexDigit s) more))
+
+-- what is read of whole bytes in hex of either case has them in lower case as its hex
+pub hex-lower : (s : Bytes) → length s % 2 ≡ 0 → all isAnyHexDigit s ≡ true → hex (unhex s) ≡ map lower s
+hex-lower s h d = ap hex (sym (unhex-lower s)) ∙ pairs-sound (map lower s) (pairs-lower s h d)
+
+lower-pairs : (s : Bytes) → hexPairs (map lower s) ≡ true → all isAnyHexDigit s ≡ true
+lower-pairs [] h = refl
+lower-pairs (a ∷ []) h = never (sym h)
+lower-pairs (a ∷ b ∷ s) h =
+    let both : (isHexDigit (lower a) && isHexDigit (lower b)) ≡ true = and-left (isHexDigit (lower a) && isHexDigit (lower b)) (hexPairs (map lower s)) h in
+    rw (
+      digit-lower a (and-left (isHexDigit (lower a)) (isHexDigit (lower b)) both),
+      digit-lower b (and-right (isHexDigit (lower a)) (isHexDigit (lower b)) both),
+    ) (lower-pairs s (and-right (isHexDigit (lower a) && isHexDigit (lower b)) (hexPairs (map lower s)) h))
+
+-- a text that is the hex of bytes in lower case is hex of either case, and says them
+pub lower-hex : (s t : Bytes) → IsBytes t → map lower s ≡ hex t → (all isAnyHexDigit s ≡ true) × (unhex s ≡ t)
+lower-hex s t bs e =
+    (lower-pairs s (ap hexPairs e ∙ pairs-hex t bs), sym (unhex-lower s) ∙ ap unhex e ∙ unhex-hex t bs)
 
 -- what hex says is bytes
 pub bytes-unhex : (s : Bytes) → IsBytes (unhex s)

@@ -1,3 +1,5 @@
 pub mod Decimals
 pub mod Hex
+pub mod Marks
 pub mod Examples
+pub mod Lines

@@ -17,6 +17,14 @@ hex (b ∷ s) = hexDigit (b / 16) ∷ hexDigit (b % 16) ∷ hex s
 abbrev pub isHexDigit : ℕ → Bool
 isHexDigit b = (leb 48 b && leb b 57) || (leb 97 b && leb b 102)
 
+-- a hex digit of either case
+abbrev pub isAnyHexDigit : ℕ → Bool
+isAnyHexDigit b = (leb 65 b && leb b 70) || isHexDigit b
+
+-- `A` to `F` as `a` to `f`
+abbrev pub lower : ℕ → ℕ
+lower b = cond (leb 65 b && leb b 70) (b + 32) b
+
 -- whole bytes in lower-case hex
 abbrev pub hexPairs : Bytes → Bool
 hexPairs [] = true

@@ -1,4 +1,6 @@
 pub mod Decimals
 pub mod Hex
+pub mod Marks
 pub mod Rows
 pub mod Claims
+pub mod Lines

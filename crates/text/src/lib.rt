@@ -1,4 +1,4 @@
-// Text: decimal numbers and lower-case hex, written into lent bytes and read.
+// Text: decimal numbers and hex, written into lent bytes and read, and marks found.
 ghost use mathlib.Core.Path.{_≡_};
 ghost use Prim.Native.Nat.{_+_, _*_, _≤_, _<_};
 ghost use lib.ListN.{length};
@@ -6,6 +6,7 @@ ghost use Rattle.octets.specs.Octets.{store};
 ghost use Rattle.text.specs.Decimals.{decimal, digitsFrom, wellBegun, decimalOf};
 ghost use Rattle.text.specs.Decimals as spec;
 ghost use Rattle.text.specs.Hex.{hex, hexDigit, isHexDigit, isHex, hexValue, unhex};
+ghost use Rattle.text.specs.Marks.{until};
 ghost use mathlib.Core.List.{[], _∷_};
 
 // The number of digits of a decimal.
@@ -37,6 +38,16 @@ pub fn put_decimal(buf: &mut [u8], at: usize, n: u64) -> usize
     }
     buf[i] = 48 + rest as u8;
     end
+}
+
+// Writes `mark` and the decimal of `n` from index `at`, and returns the index after them.
+pub fn put_marked(buf: &mut [u8], at: usize, mark: u8, n: u64) -> usize
+    requires { ⌜ at + length (mark ∷ decimal n) ≤ length (now buf) ⌝ }
+    ensures next { λ r. ⌜ r ≡ at + length (mark ∷ decimal n) ⌝ }
+    ensures bytes { λ _. ⌜ now (buf .exit) ≡ store (now (buf .entry)) at (mark ∷ decimal n) ⌝ }
+{
+    buf[at] = mark;
+    put_decimal(buf, at + 1, n)
 }
 
 // What a text says as a decimal.
@@ -190,4 +201,20 @@ pub fn put_unhex(buf: &mut [u8], at: usize, s: &[u8]) -> usize
         i += 1;
     }
     at + n
+}
+
+// The index of the next `mark` from index `at` on, or the end.
+pub fn find(s: &[u8], at: usize, mark: u8) -> usize
+    requires { ⌜ at ≤ length (now s) ⌝ }
+    ensures end { λ r. ⌜ r ≡ at + length (until mark at (now (s .entry))) ⌝ }
+    ensures within { λ r. ⌜ r ≤ length (now (s .entry)) ⌝ }
+{
+    let mut i = at;
+    while i < s.len() {
+        if s[i] == mark {
+            return i;
+        }
+        i += 1;
+    }
+    i
 }

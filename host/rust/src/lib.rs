@@ -3,21 +3,24 @@
 //! The host owns sockets, both clocks, random numbers and secp256k1. For each datagram it recovers the
 //! signer's key and calls [`Table::datagram`]; the answer says what is due, and [`Packet::read`] has the
 //! fields. To send, it writes a body ([`write`]), signs its hash ([`keccak256`]), and joins both
-//! ([`write::join`]); after a ping it calls [`Table::ping_sent`] with the datagram's hash.
+//! ([`write::join`]); after a ping it calls [`Table::ping_sent`] with the datagram's hash. Its first nodes may
+//! come from a boot list ([`read_enodes`]).
 //!
 //! An answer number of document 01 other than 0 is an `Err` with that [`Number`]; nothing lent has changed
 //! then but the counters.
 
 #![deny(unsafe_code)]
 
+mod boot;
 mod packet;
 #[allow(unsafe_code)]
 mod sys;
 pub mod write;
 
+pub use boot::{enode_text, read_enodes, write_enodes, End, ENODE_LINE};
 pub use packet::{Nodes, Packet};
 
-/// An answer number of document 01, 1 to 21 where it is an error.
+/// An answer number of document 01 or of a request, not 0 where it is an error.
 pub type Number = u8;
 
 /// The box clock: milliseconds that never go back.

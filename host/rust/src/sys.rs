@@ -130,6 +130,20 @@ extern "C" {
         body_len: usize,
     ) -> u32;
     fn coghammer_keccak256(message: *const u8, message_len: usize, hash: *mut [u8; 32]);
+    fn coghammer_read_enodes(
+        list: *mut Node,
+        list_len: usize,
+        text: *const u8,
+        text_len: usize,
+        told: *mut [u64; 3],
+    ) -> u8;
+    fn coghammer_write_enodes(
+        buf: *mut u8,
+        buf_len: usize,
+        nodes: *const Node,
+        count: usize,
+        size: &mut [u64; 1],
+    ) -> u8;
 }
 
 // ---- the table's calls
@@ -376,4 +390,18 @@ pub fn join(buf: &mut [u8], signature: &[u8], body: &[u8]) -> u32 {
 pub fn keccak256(message: &[u8], hash: &mut [u8; 32]) {
     // SAFETY: a slice that is read, an array of the length declared.
     unsafe { coghammer_keccak256(message.as_ptr(), message.len(), hash) }
+}
+
+// ---- boot lists
+
+pub fn read_enodes(list: &mut [Node], text: &[u8], told: &mut [u64; 3]) -> u8 {
+    // SAFETY: `Node` has C's layout and any bytes are a node; the length counts nodes; a slice that is
+    // read, an array of the length declared.
+    unsafe { coghammer_read_enodes(list.as_mut_ptr(), list.len(), text.as_ptr(), text.len(), told) }
+}
+
+pub fn write_enodes(buf: &mut [u8], nodes: &[Node], size: &mut [u64; 1]) -> u8 {
+    // SAFETY: the first slice is lent for writing; the second is read, and its length counts nodes; an
+    // array of the length declared.
+    unsafe { coghammer_write_enodes(buf.as_mut_ptr(), buf.len(), nodes.as_ptr(), nodes.len(), size) }
 }

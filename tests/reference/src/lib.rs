@@ -14,15 +14,21 @@
 //! | [`table`] | the table and its four calls, the counters |
 //! | [`layout`] | the table's bytes, when they are sound, and the calls on them |
 //! | [`log`] | log lines, answers, printout: the replay |
+//! | [`enode`] | boot lists: enode lines, read and written |
 //! | [`calls`] | sequences of calls as values, to compare another implementation call by call |
 //! | [`generator`] | seeded random calls, tables and logs |
 //!
 //! Programs: `replay` (a log in, answers and printout out), `generate` (a seeded log), `call_cases`
-//! (seeded cases for the program of that name, with what it must print) and `example_log` (the example
-//! of the README).
+//! (seeded cases for the program of that name, with what it must print), `bootnodes` (a boot list in, its
+//! nodes out) and `example_log` (the example of the README).
+
+use std::fs::File;
+use std::io::{self, BufRead, BufReader};
+use std::process::ExitCode;
 
 pub mod bucket;
 pub mod calls;
+pub mod enode;
 pub mod generator;
 pub mod keccak;
 pub mod layout;
@@ -43,4 +49,22 @@ pub fn hex(bytes: &[u8]) -> String {
         text.push(DIGITS[usize::from(byte & 15)] as char);
     }
     text
+}
+
+/// A program over the file named by its first argument, or over standard input if there is none (L9).
+pub fn program(name: &str, run: fn(&mut dyn BufRead) -> io::Result<()>) -> ExitCode {
+    let done = match std::env::args_os().nth(1) {
+        None => run(&mut io::stdin().lock()),
+        Some(path) => match File::open(&path) {
+            Ok(file) => run(&mut BufReader::new(file)),
+            Err(error) => Err(io::Error::other(format!("{}: {error}", path.display()))),
+        },
+    };
+    match done {
+        Ok(()) => ExitCode::SUCCESS,
+        Err(error) => {
+            eprintln!("{name}: {error}");
+            ExitCode::FAILURE
+        }
+    }
 }

@@ -51,7 +51,7 @@ use borrow.Author.Tests.{lt-ltb, le-ltb, ltb-true, ltb-false}
 use Rattle.closest_nodes.specs.Listing.{nodeAt, nowhere, chosenNode, withChosen}
 use Rattle.node.specs.declared.Node.{Node}
 use Rattle.closest_choice.specs.declared.Choice.{Choice}
-use Rattle.closest.proofs.Written.{upto, upto-length, upto-next}
+use Rattle.walk.proofs.Written.{upto, upto-length, upto-next}
 use Rattle.node.proofs.Node as TN
 use Rattle.node.proofs.Node.Laws as TN′
 use Rattle.closest_nearest.proofs.Near as TNear

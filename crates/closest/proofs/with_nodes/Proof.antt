@@ -10,7 +10,7 @@ use lib.ListN.{length, set}
 use Rattle.node.specs.declared.Node.{Node}
 use Rattle.closest_nearest.proofs.Shift.{length-mapped}
 use Rattle.closest_nodes.specs.Listing.{nodeAt, nowhere}
-use Rattle.closest.proofs.Written.{upto, upto-next}
+use Rattle.walk.proofs.Written.{upto, upto-next}
 use Rattle.closest.proofs.with_nodes.Statement.{statement}
 use Rattle.closest.proofs.with_nodes.Tie as tie
 

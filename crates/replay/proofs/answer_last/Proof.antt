@@ -1,6 +1,6 @@
 -- `replay::answer_last` meets its contract. Assumes nothing.
 use mathlib.Core.Path.{refl, sym, _∙_}
-use Rattle.replay.proofs.Steps.{last-step}
+use Rattle.log_lines.proofs.Found.{last-step}
 use Rattle.replay.proofs.Ready.{after-long}
 use borrow.Author.Needs.{needs}
 use Rattle.replay.proofs.answer_last.Statement.{statement}

@@ -2,7 +2,8 @@
 use Prim.Native.Nat.{_≤_}
 use mathlib.Core.Path.{refl, sym, _∙_}
 use lib.ListN.{length}
-use Rattle.replay.proofs.Steps.{line-step, long-step, more-step, left-on, left-end}
+use Rattle.log_lines.proofs.Found.{line-step, long-step, more-step}
+use Rattle.replay.proofs.Steps.{left-on, left-end}
 use Rattle.replay.proofs.Ready.{after-long, going-on, buffered}
 use borrow.Author.Needs.{needs}
 use native.Mathlib.Omega.{arith}

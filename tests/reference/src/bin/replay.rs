@@ -1,12 +1,12 @@
 //! Replays a log: the file named by the first argument, or standard input if there is none (L9).
 
-use std::fs::File;
-use std::io::{self, BufRead, BufReader, BufWriter, Write};
+use std::io::{self, BufRead, BufWriter, Write};
 use std::process::ExitCode;
 
 use reference::log::Replay;
+use reference::program;
 
-fn run(mut input: impl BufRead) -> io::Result<()> {
+fn run(input: &mut dyn BufRead) -> io::Result<()> {
     let mut output = BufWriter::new(io::stdout().lock());
     let mut replay = Replay::default();
     let mut line = Vec::new();
@@ -20,18 +20,5 @@ fn run(mut input: impl BufRead) -> io::Result<()> {
 }
 
 fn main() -> ExitCode {
-    let done = match std::env::args_os().nth(1) {
-        None => run(io::stdin().lock()),
-        Some(path) => match File::open(&path) {
-            Ok(file) => run(BufReader::new(file)),
-            Err(error) => Err(io::Error::other(format!("{}: {error}", path.display()))),
-        },
-    };
-    match done {
-        Ok(()) => ExitCode::SUCCESS,
-        Err(error) => {
-            eprintln!("replay: {error}");
-            ExitCode::FAILURE
-        }
-    }
+    program("replay", run)
 }

@@ -6,6 +6,7 @@
 //! | [`peers`] | an own key and nodes in chosen buckets |
 //! | [`datagrams`] | packets, good and damaged |
 //! | [`calls`] | calls that follow a table's state |
+//! | [`enodes`] | boot lists, good and damaged |
 //! | [`logs`] | logs: lines of calls, damaged lines, `own` lines |
 //! | [`tables`] | sound tables, also those that no run reaches |
 //! | [`damage`] | bytes that make a table unsound, one kind at a time |
@@ -15,6 +16,7 @@ pub mod calls;
 pub mod coverage;
 pub mod damage;
 pub mod datagrams;
+pub mod enodes;
 pub mod logs;
 pub mod peers;
 pub mod random;

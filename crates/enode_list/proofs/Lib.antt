@@ -1,0 +1,4 @@
+pub mod Planned
+pub mod Stored
+pub mod Shown
+pub mod Agreement
