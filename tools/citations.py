@@ -5,7 +5,7 @@
   `NAME/specs/File.antt`               a file of the crate NAME; `*` stands for any
   `NAME/label`                         crates/NAME/must-fail/label.edit
   `NAME::item`                         an item that the crate's sources have
-  `a`, `b` (`NAME/specs/File.antt`)    names that stand in that file
+  `a`, `b` (`NAME/specs/File.antt`)    names that stand in that file, which may be a link
   a table's row with a column File     the names in its column Statement stand in one of those files
   any other `name-of-a-law`, `nameOf`  a name that some source, definition or proof has
 """
@@ -101,7 +101,7 @@ def page_faults(page):
             tested += 1
             if "://" not in path and not exists(page, path):
                 yield f"{place}: {path} is not there"
-        for m in re.finditer(r"((?:`%s`(?:, | and | .. )?)+) \(`([^`]+\.(?:antt|rt))`" % WORD, line):
+        for m in re.finditer(r"((?:`%s`(?:, | and | .. )?)+) \(\[?`([^`]+\.(?:antt|rt))`" % WORD, line):
             yield from row_faults(cited_names(m[1]), paths_of(m[2]) or [], place)
         cells = [c.strip() for c in re.split(r"(?<!\\)\|", line)[1:-1]] if line.startswith("|") else []
         if not cells:
@@ -115,7 +115,7 @@ def page_faults(page):
 
 
 def main():
-    pages = ["README.md", "host/README.md", "tests/README.md", "examples/host/README.md"]
+    pages = ["README.md", "CHANGELOG.md", "host/README.md", "tests/README.md", "examples/host/README.md"]
     pages += sorted(os.path.relpath(p, ROOT) for p in glob.glob(os.path.join(ROOT, "docs", "**", "*.md"), recursive=True))
     for page in pages:
         faults.extend(page_faults(page))

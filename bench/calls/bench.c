@@ -79,8 +79,8 @@ static void measure(const char *name, int out, const uint8_t *packet, size_t len
         memcpy(table, full, sizeof table);
         start = now();
         for (int i = 0; i < BATCH; i++) {
-            uint8_t number = packet ? COGHAMMER_NUMBER(coghammer_datagram(&counters, table, sizeof table, 20, 0, address, 4, 77, keys[i], 64, packet, len))
-                                    : coghammer_ping_sent(&counters, table, sizeof table, 20, keys[i], 64, address, 4, 77, 77, hash, 32);
+            uint8_t number = packet ? COGHAMMER_NUMBER(coghammer_datagram(&counters, table, sizeof table, (coghammer_millis){20}, (coghammer_unix){0}, address, 4, 77, keys[i], 64, packet, len))
+                                    : coghammer_ping_sent(&counters, table, sizeof table, (coghammer_millis){20}, keys[i], 64, address, 4, 77, 77, hash, 32);
             if (number) printf("%s: answer %d\n", name, number), exit(1);
         }
         calls = best_of(calls, (now() - start) / BATCH);

@@ -39,6 +39,7 @@ static double program(const char *path, const char *log) {
     if (child == 0) {
         int null = open("/dev/null", O_WRONLY);
         dup2(null, 1);
+        dup2(null, 2);
         execl(path, path, log, (char *)0);
         _exit(127);
     }

@@ -104,9 +104,9 @@ static void measure(int count) {
         double hashed = now();
         if (coghammer_closest(list, 16, spare, size, target, 64) != 16 << 8) exit(1);
         double chosen = now();
-        if (coghammer_sweep(&counters, spare, size, 10)) exit(1);
+        if (coghammer_sweep(&counters, spare, size, (coghammer_millis){10})) exit(1);
         double swept = now();
-        if (coghammer_sweep(&counters, table, size, 600)) exit(1);
+        if (coghammer_sweep(&counters, table, size, (coghammer_millis){600})) exit(1);
         double changed = now();
         fill(count, 1);
         double times[4] = {hashed - start, chosen - hashed, swept - chosen, changed - swept};

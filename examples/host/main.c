@@ -47,11 +47,13 @@ static void by_the_clock(unsigned i, uint64_t now) {
 // Until the time is over, or so many datagrams have come that something must be wrong.
 static unsigned run(unsigned count, uint64_t until) {
     unsigned received = 0;
-    for (uint64_t now = clock_millis(); now < until && received < MOST_DATAGRAMS; now = clock_millis()) {
+    for (uint64_t now = clock_millis().millis; now < until && received < MOST_DATAGRAMS; now = clock_millis().millis) {
         poll(sockets, count, 5);
         for (unsigned i = 0; i < count; i++)
             if (sockets[i].revents & POLLIN) {
-                node_receive(&nodes[i]);
+                taken t;
+                if (!node_take(nodes[i].socket, &t)) continue;
+                node_receive(&nodes[i], &t);
                 received++;
             }
         for (unsigned i = 0; i < count; i++) by_the_clock(i, now);
@@ -64,7 +66,7 @@ static void report(unsigned count, unsigned received) {
     for (unsigned i = 0; i < count; i++) {
         const node *n = &nodes[i];
         unsigned refused = 0;
-        for (int j = 1; j < 22; j++) refused += n->counters.counts[j];
+        for (int j = 1; j < COGHAMMER_COUNTS; j++) refused += n->counters.counts[j];
         for (int j = 1; j < 7; j++) types[j] += n->received[j];
         full += n->full_replies;
         printf("node %u: port %u, %u calls done, %u refused\n", i, n->self.endpoint.udp, n->counters.counts[0], refused);

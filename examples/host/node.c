@@ -6,22 +6,21 @@
 #include <time.h>
 #include <unistd.h>
 
-enum { LARGEST = 1280, BODY_ROOM = LARGEST - 97, PACKED = COGHAMMER_PACKED_NODE, CLOSEST = 16, ASKED = 3 };
+enum { BODY_ROOM = COGHAMMER_BODY_MOST, PACKED = COGHAMMER_PACKED_NODE, CLOSEST = COGHAMMER_CLOSEST, ASKED = 3 };
 
 // ---- the two clocks, and neither is ever taken for the other
 
-uint64_t clock_millis(void) {
-    static uint64_t first;
+static uint64_t first_millis;
+
+coghammer_millis clock_millis(void) {
     struct timespec t;
     clock_gettime(CLOCK_MONOTONIC, &t);
-    uint64_t millis = (uint64_t)t.tv_sec * 1000 + (uint64_t)t.tv_nsec / 1000000;
-    if (!first) first = millis;
-    return millis - first;
+    return (coghammer_millis){(uint64_t)t.tv_sec * 1000 + (uint64_t)t.tv_nsec / 1000000 - first_millis};
 }
 
-static uint64_t unix_seconds(void) { return (uint64_t)time(NULL); }
+static coghammer_unix unix_seconds(void) { return (coghammer_unix){(uint64_t)time(NULL)}; }
 
-static uint64_t expiration(void) { return unix_seconds() + 20; }
+static uint64_t expiration(void) { return unix_seconds().seconds + 20; }
 
 // ---- sockets
 
@@ -45,7 +44,7 @@ static coghammer_endpoint endpoint_of(const struct sockaddr_in *a) {
 static void transmit(node *n, const coghammer_endpoint *to, const uint8_t *datagram, size_t len) {
     struct sockaddr_in a = address_of(to);
     // a datagram that the system doesn't take is one that got lost
-    (void)!sendto(n->socket, datagram, len, 0, (struct sockaddr *)&a, sizeof a);
+    (void)!sendto(n->answer_by, datagram, len, 0, (struct sockaddr *)&a, sizeof a);
 }
 
 // ---- sending: the library writes the body, the host signs it, the library joins both
@@ -70,7 +69,7 @@ void node_ping(node *n, const coghammer_node *to) {
                                          there->udp, expiration(), true, 1);
     size_t len = seal(n, body, code, datagram);
     // the datagram's first 32 bytes are its hash, which the pong names; only a ping that the table has recorded goes out
-    uint64_t clock = clock_millis();
+    coghammer_millis clock = clock_millis();
     uint8_t answer = coghammer_ping_sent(&n->counters, n->table, TABLE_SIZE, clock, to->key, 64, there->address, there->len, there->udp,
                                          there->tcp, datagram, 32);
     record_sent(&n->recording, clock, to, datagram, answer);
@@ -123,32 +122,26 @@ static void send_record(node *n, const coghammer_node *to, const uint8_t *reques
 
 // A node waits because its bucket is full: the bucket's first entry has to show that it is still there.
 static void ping_head(node *n, const uint8_t key[64]) {
-    coghammer_node head = {0};
-    uint64_t numbers[5];
-    if (coghammer_head(n->table, TABLE_SIZE, key, 64, head.key, head.endpoint.address, numbers)) return;
-    head.endpoint.len = (uint8_t)numbers[0];
-    head.endpoint.udp = (uint16_t)numbers[1];
-    head.endpoint.tcp = (uint16_t)numbers[2];
-    if (head.endpoint.len && !numbers[3]) node_ping(n, &head);
+    coghammer_node head;
+    uint64_t ping[COGHAMMER_HEAD];
+    if (coghammer_head(n->table, TABLE_SIZE, key, 64, &head, ping)) return;
+    if (head.endpoint.len && !ping[COGHAMMER_HEAD_PING_OUT]) node_ping(n, &head);
 }
 
-// Whether a key's node is an entry of the table: then nothing is nearer to it.
+// Whether a key's node is an entry of the table.
 static bool is_entry(const node *n, const uint8_t key[64]) {
-    coghammer_node list[CLOSEST];
-    return closest(n, key, list) && memcmp(list[0].key, key, 64) == 0;
+    coghammer_node held;
+    uint64_t told[COGHAMMER_HELD];
+    return coghammer_find(n->table, TABLE_SIZE, key, 64, &held, told) == 0 && told[COGHAMMER_HELD_AS] == COGHAMMER_HELD_SEAT;
 }
 
 // Pings the nodes of a Neighbors that are new.
 static void ping_neighbors(node *n, const uint8_t *datagram, size_t len, const uint64_t fields[COGHAMMER_FIELDS]) {
-    size_t start = fields[COGHAMMER_NODES_START], size = fields[COGHAMMER_NODES_LEN];
+    size_t start = fields[COGHAMMER_FIELD_NODES_START], size = fields[COGHAMMER_FIELD_NODES_LEN];
     size_t count = coghammer_node_count(datagram, len, start, size);
     for (size_t i = 0; i < count; i++) {
-        coghammer_node to = {0};
-        uint64_t numbers[3];
-        coghammer_node_at(datagram, len, start, size, i, to.key, to.endpoint.address, numbers);
-        to.endpoint.len = (uint8_t)numbers[0];
-        to.endpoint.udp = (uint16_t)numbers[1];
-        to.endpoint.tcp = (uint16_t)numbers[2];
+        coghammer_node to;
+        coghammer_node_at(datagram, len, start, size, i, &to);
         if (to.endpoint.len != 4 || memcmp(to.key, n->self.key, 64) == 0) continue; // this example speaks IPv4 only
         if (!is_entry(n, to.key)) node_ping(n, &to);
     }
@@ -161,56 +154,70 @@ static void handle(node *n, coghammer_node *from, const uint8_t *datagram, size_
     coghammer_packet(datagram, len, fields);
     n->received[type]++;
     switch (type) {
-    case 1:
+    case COGHAMMER_PING:
         send_pong(n, from, datagram);
-        from->endpoint.tcp = (uint16_t)fields[COGHAMMER_FROM_TCP];
-        if (outcome) node_ping(n, from);
+        from->endpoint.tcp = (uint16_t)fields[COGHAMMER_FIELD_FROM_TCP];
+        if (outcome == COGHAMMER_PING_DUE) node_ping(n, from);
         break;
-    case 2:
-        if (outcome == 2) ping_head(n, from->key);
+    case COGHAMMER_PONG:
+        if (outcome == COGHAMMER_WAITS) ping_head(n, from->key);
         break;
-    case 3: send_closest(n, from, datagram + fields[COGHAMMER_TARGET_START]); break;
-    case 4: ping_neighbors(n, datagram, len, fields); break;
-    case 5: send_record(n, from, datagram); break;
+    case COGHAMMER_FIND_NODE: send_closest(n, from, datagram + fields[COGHAMMER_FIELD_TARGET_START]); break;
+    case COGHAMMER_NEIGHBORS: ping_neighbors(n, datagram, len, fields); break;
+    case COGHAMMER_ENR_REQUEST: send_record(n, from, datagram); break;
     default: break; // a record: a host that keeps records would check and store it
     }
 }
 
-void node_receive(node *n) {
-    uint8_t datagram[LARGEST + 1]; // one more, so that a longer one is refused
+bool node_take(int socket, taken *t) {
     struct sockaddr_in a;
     socklen_t size = sizeof a;
-    ssize_t got = recvfrom(n->socket, datagram, sizeof datagram, MSG_DONTWAIT, (struct sockaddr *)&a, &size);
-    if (got <= 0) return; // nothing there, or no byte: the log has no form for that
-    size_t len = (size_t)got;
-    coghammer_node from = {.endpoint = endpoint_of(&a)};
-    size_t key_len = recover_signer(datagram, len, from.key);
-    uint64_t clock = clock_millis(), unix_time = unix_seconds();
-    uint32_t code = coghammer_datagram(&n->counters, n->table, TABLE_SIZE, clock, unix_time, from.endpoint.address, from.endpoint.len,
-                                       from.endpoint.udp, from.key, key_len, datagram, len);
-    record_rx(&n->recording, clock, unix_time, &from, key_len, datagram, len, code, n->table);
-    if (COGHAMMER_NUMBER(code) == 0) handle(n, &from, datagram, len, code);
+    ssize_t got = recvfrom(socket, t->datagram, sizeof t->datagram, 0, (struct sockaddr *)&a, &size);
+    if (got <= 0) return false; // nothing there, or no byte: the log has no form for that
+    t->len = (size_t)got;
+    t->from = (coghammer_node){.endpoint = endpoint_of(&a)};
+    t->key_len = recover_signer(t->datagram, t->len, t->from.key);
+    t->socket = socket;
+    return true;
+}
+
+void node_receive(node *n, taken *t) {
+    const coghammer_endpoint *e = &t->from.endpoint;
+    coghammer_millis clock = clock_millis();
+    coghammer_unix unix_time = unix_seconds();
+    uint32_t code = coghammer_datagram(&n->counters, n->table, TABLE_SIZE, clock, unix_time, e->address, e->len, e->udp, t->from.key, t->key_len,
+                                       t->datagram, t->len);
+    record_rx(&n->recording, clock, unix_time, &t->from, t->key_len, t->datagram, t->len, code, n->table);
+    n->answer_by = t->socket;
+    if (COGHAMMER_NUMBER(code) == COGHAMMER_DONE) handle(n, &t->from, t->datagram, t->len, code);
+    n->answer_by = n->socket;
 }
 
 void node_sweep(node *n) {
-    uint64_t clock = clock_millis();
+    coghammer_millis clock = clock_millis();
     record_sweep(&n->recording, clock, coghammer_sweep(&n->counters, n->table, TABLE_SIZE, clock));
 }
 
 // ---- opening and closing
 
-void node_open(node *n, const char *folder, unsigned number) {
+int socket_open(coghammer_endpoint *here) {
     struct sockaddr_in a = {.sin_family = AF_INET, .sin_addr.s_addr = htonl(INADDR_LOOPBACK)};
     socklen_t size = sizeof a;
+    int fd = socket(AF_INET, SOCK_DGRAM, 0);
+    if (fd < 0) fail("socket");
+    if (bind(fd, (struct sockaddr *)&a, sizeof a)) fail("bind");
+    if (getsockname(fd, (struct sockaddr *)&a, &size)) fail("getsockname");
+    *here = endpoint_of(&a);
+    here->tcp = here->udp;
+    return fd;
+}
+
+void node_open(node *n, const char *folder, unsigned number) {
     memset(n, 0, sizeof *n);
-    n->socket = socket(AF_INET, SOCK_DGRAM, 0);
-    if (n->socket < 0) fail("socket");
-    if (bind(n->socket, (struct sockaddr *)&a, sizeof a)) fail("bind");
-    if (getsockname(n->socket, (struct sockaddr *)&a, &size)) fail("getsockname");
+    if (!first_millis) first_millis = clock_millis().millis;
+    n->socket = n->answer_by = socket_open(&n->self.endpoint);
     identity_new(&n->id);
     memcpy(n->self.key, n->id.key, 64);
-    n->self.endpoint = endpoint_of(&a);
-    n->self.endpoint.tcp = n->self.endpoint.udp;
     n->record_size = write_record(&n->id, n->self.endpoint.address, n->self.endpoint.udp, n->record);
     recording_open(&n->recording, folder, number);
     coghammer_clear(&n->counters);

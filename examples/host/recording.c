@@ -31,13 +31,13 @@ void record_own(recording *r, const uint8_t key[64], uint8_t answer) {
     fprintf(r->answers, "%u\n", answer);
 }
 
-void record_sweep(recording *r, uint64_t clock, uint8_t answer) {
-    fprintf(r->log, "sweep\t%" PRIu64 "\n", clock);
+void record_sweep(recording *r, coghammer_millis clock, uint8_t answer) {
+    fprintf(r->log, "sweep\t%" PRIu64 "\n", clock.millis);
     fprintf(r->answers, "%u\n", answer);
 }
 
-void record_sent(recording *r, uint64_t clock, const coghammer_node *to, const uint8_t hash[32], uint8_t answer) {
-    fprintf(r->log, "sent\t%" PRIu64 "\t", clock);
+void record_sent(recording *r, coghammer_millis clock, const coghammer_node *to, const uint8_t hash[32], uint8_t answer) {
+    fprintf(r->log, "sent\t%" PRIu64 "\t", clock.millis);
     hex(r->log, to->key, 64);
     fputc('\t', r->log);
     hex(r->log, to->endpoint.address, to->endpoint.len);
@@ -49,25 +49,20 @@ void record_sent(recording *r, uint64_t clock, const coghammer_node *to, const u
 
 // ---- answers to datagrams
 
-static void ping_state(FILE *file, bool out, uint64_t since) {
-    if (out) fprintf(file, "%" PRIu64, since);
-    else fputs("quiet", file);
-}
-
 // The head of the bucket that a waiting node's key falls into.
 static void put_wait(FILE *file, const uint8_t table[TABLE_SIZE], const uint8_t key[64]) {
-    uint8_t head[64], address[16];
-    uint64_t numbers[5];
-    coghammer_head(table, TABLE_SIZE, key, 64, head, address, numbers);
+    coghammer_node head = {0};
+    uint64_t ping[COGHAMMER_HEAD] = {0};
+    coghammer_head(table, TABLE_SIZE, key, 64, &head, ping);
     fputs("wait\t", file);
-    hex(file, head, 8);
-    fputc('\t', file);
-    ping_state(file, numbers[3], numbers[4]);
+    hex(file, head.key, 8);
+    if (ping[COGHAMMER_HEAD_PING_OUT]) fprintf(file, "\t%" PRIu64, ping[COGHAMMER_HEAD_PING_SINCE]);
+    else fputs("\tquiet", file);
 }
 
-void record_rx(recording *r, uint64_t clock, uint64_t unix_time, const coghammer_node *from, size_t key_len, const uint8_t *datagram,
+void record_rx(recording *r, coghammer_millis clock, coghammer_unix unix_time, const coghammer_node *from, size_t key_len, const uint8_t *datagram,
                size_t len, uint32_t code, const uint8_t table[TABLE_SIZE]) {
-    fprintf(r->log, "rx\t%" PRIu64 "\t%" PRIu64 "\t", clock, unix_time);
+    fprintf(r->log, "rx\t%" PRIu64 "\t%" PRIu64 "\t", clock.millis, unix_time.seconds);
     hex(r->log, from->endpoint.address, from->endpoint.len);
     fprintf(r->log, "\t%u\t", from->endpoint.udp);
     if (key_len) hex(r->log, from->key, key_len);
@@ -86,39 +81,12 @@ void record_rx(recording *r, uint64_t clock, uint64_t unix_time, const coghammer
     fputc('\n', r->answers);
 }
 
-// ---- the table, by docs/LAYOUT.md
-
-static uint64_t number(const uint8_t *bytes, size_t len) {
-    uint64_t n = 0;
-    for (size_t i = 0; i < len; i++) n = n << 8 | bytes[i];
-    return n;
-}
-
-static void put_entry(FILE *file, const char *word, int distance, int place, const uint8_t *e) {
-    fprintf(file, "%s\t%d\t%d\t", word, distance, place);
-    hex(file, e, 8);
-    fputc('\t', file);
-    hex(file, e + 65, e[64]);
-    fprintf(file, "\t%" PRIu64 "\t%" PRIu64 "\t%" PRIu64 "\t", number(e + 81, 2), number(e + 83, 2), number(e + 85, 8));
-    if (e[93]) fprintf(file, "%" PRIu64 "\t", number(e + 94, 8));
-    else fputs("-\t", file);
-    ping_state(file, e[102], number(e + 103, 8));
-    fputc('\n', file);
-}
+// ---- the table
 
 static void put_table(FILE *file, const uint8_t table[TABLE_SIZE]) {
-    enum { HEADER = 512, BUCKET = 2862, ENTRY = 143, ENTRIES = 2, REPLACEMENTS = 2290 };
-    int entries = 0, replacements = 0;
-    for (int i = 0; i < BUCKETS; i++) {
-        entries += table[HEADER + i * BUCKET];
-        replacements += table[HEADER + i * BUCKET + 1];
-    }
-    fprintf(file, "table\t%d\t%" PRIu64 "\t%d\t%d\n", BUCKETS, number(table + 32, 8), entries, replacements);
-    for (int i = 0; i < BUCKETS; i++) {
-        const uint8_t *bucket = table + HEADER + i * BUCKET;
-        for (int j = 0; j < bucket[0]; j++) put_entry(file, "seat", 257 - BUCKETS + i, j + 1, bucket + ENTRIES + j * ENTRY);
-        for (int j = 0; j < bucket[1]; j++) put_entry(file, "wait", 257 - BUCKETS + i, j + 1, bucket + REPLACEMENTS + j * ENTRY);
-    }
+    static uint8_t text[COGHAMMER_PRINTOUT_SIZE(BUCKETS)];
+    uint64_t size = 0;
+    if (coghammer_print(text, sizeof text, table, TABLE_SIZE, &size) == 0) fwrite(text, 1, size, file);
 }
 
 void recording_close(recording *r, const uint8_t table[TABLE_SIZE]) {

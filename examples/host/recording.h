@@ -15,10 +15,10 @@ void recording_open(recording *r, const char *folder, unsigned number);
 void recording_close(recording *r, const uint8_t table[TABLE_SIZE]);
 
 void record_own(recording *r, const uint8_t key[64], uint8_t answer);
-void record_sweep(recording *r, uint64_t clock, uint8_t answer);
-void record_sent(recording *r, uint64_t clock, const coghammer_node *to, const uint8_t hash[32], uint8_t answer);
+void record_sweep(recording *r, coghammer_millis clock, uint8_t answer);
+void record_sent(recording *r, coghammer_millis clock, const coghammer_node *to, const uint8_t hash[32], uint8_t answer);
 // A datagram with its answer, and the table after it.
-void record_rx(recording *r, uint64_t clock, uint64_t unix_time, const coghammer_node *from, size_t key_len, const uint8_t *datagram,
+void record_rx(recording *r, coghammer_millis clock, coghammer_unix unix_time, const coghammer_node *from, size_t key_len, const uint8_t *datagram,
                size_t len, uint32_t code, const uint8_t table[TABLE_SIZE]);
 
 #endif

@@ -16,6 +16,9 @@ static void check(int holds, int line, const char *text) {
 }
 #define CHECK(condition) check((condition), __LINE__, #condition)
 
+#define MS(n) ((coghammer_millis){n})
+#define UNIX(n) ((coghammer_unix){n})
+
 static const uint64_t now_unix = 1700000000;
 static uint8_t own[64], peer[64], signature[65], hash[32];
 static const uint8_t address[4] = {192, 0, 2, 7}, other[4] = {192, 0, 2, 8};
@@ -33,6 +36,14 @@ static int all(const uint8_t *bytes, size_t len, uint8_t byte) {
     return 1;
 }
 
+// A record has a byte between its fields, which is nobody's.
+static int same_node(const coghammer_node *a, const coghammer_node *b) {
+    const coghammer_endpoint *e = &a->endpoint, *f = &b->endpoint;
+    return memcmp(a->key, b->key, 64) == 0 && e->len == f->len && memcmp(e->address, f->address, 16) == 0 && e->udp == f->udp && e->tcp == f->tcp;
+}
+
+static const coghammer_node no_node;
+
 static void layout(void) {
     CHECK(sizeof(coghammer_counters) == 88 && _Alignof(coghammer_counters) == 4);
     CHECK(sizeof(((coghammer_counters *)0)->counts) == 88);
@@ -41,9 +52,19 @@ static void layout(void) {
     CHECK(offsetof(coghammer_endpoint, udp) == 18 && offsetof(coghammer_endpoint, tcp) == 20);
     CHECK(sizeof(coghammer_node) == 86 && _Alignof(coghammer_node) == 2);
     CHECK(offsetof(coghammer_node, key) == 0 && offsetof(coghammer_node, endpoint) == 64);
+    CHECK(sizeof(coghammer_millis) == 8 && sizeof(coghammer_unix) == 8);
     CHECK(COGHAMMER_NUMBER(0x010203) == 3 && COGHAMMER_VALUE(0x010203) == 0x0102);
     CHECK(COGHAMMER_TYPE_OF(0x010203) == 2 && COGHAMMER_OUTCOME(0x010203) == 1);
-    CHECK(COGHAMMER_TABLE_SIZE(16) == 46304 && COGHAMMER_FIELDS == 20 && COGHAMMER_RECORD_LEN == 19 && COGHAMMER_PACKED_NODE == 85);
+    CHECK(COGHAMMER_TABLE_SIZE(16) == 46304 && COGHAMMER_FIELDS == 20 && COGHAMMER_FIELD_RECORD_LEN == 19 && COGHAMMER_PACKED_NODE == 85);
+    CHECK(COGHAMMER_PRINTOUT_SIZE(16) == 43881 && COGHAMMER_STATE == 4 && COGHAMMER_HEAD == 2 && COGHAMMER_HELD == 3);
+}
+
+// Every number has words of its own, and nothing else has.
+static void texts(void) {
+    for (int i = 0; i < 256; i++)
+        for (int j = 0; j < i; j++)
+            CHECK((strcmp(coghammer_text((uint8_t)i), coghammer_text((uint8_t)j)) == 0) == (j > COGHAMMER_NOT_ENODE));
+    CHECK(strcmp(coghammer_text(255), "no answer number") == 0);
 }
 
 static void hashes(void) {
@@ -76,11 +97,11 @@ static size_t datagram_of(uint8_t *datagram, const uint8_t *body, uint32_t code)
 }
 
 static uint32_t receive(uint64_t clock, const uint8_t *datagram, size_t len) {
-    return coghammer_datagram(&counters, table, SIZE, clock, now_unix, address, 4, 30303, peer, 64, datagram, len);
+    return coghammer_datagram(&counters, table, SIZE, MS(clock), UNIX(now_unix), address, 4, 30303, peer, 64, datagram, len);
 }
 
 static uint8_t sent(uint64_t clock) {
-    return coghammer_ping_sent(&counters, table, SIZE, clock, peer, 64, address, 4, 30303, 30304, hash, 32);
+    return coghammer_ping_sent(&counters, table, SIZE, MS(clock), peer, 64, address, 4, 30303, 30304, hash, 32);
 }
 
 static void writers(void) {
@@ -114,58 +135,57 @@ static void writers(void) {
     // what is written reads back
     size_t len = datagram_of(datagram, body, coghammer_write_ping(body, LARGEST, address, 4, 1, 2, other, 4, 3, now_unix, true, 9));
     CHECK(coghammer_packet(datagram, len, fields) == 0);
-    CHECK(fields[COGHAMMER_TYPE] == 1 && fields[COGHAMMER_VERSION] == 4 && fields[COGHAMMER_EXPIRATION] == now_unix);
-    CHECK(fields[COGHAMMER_HAS_ENR_SEQ] == 1 && fields[COGHAMMER_ENR_SEQ] == 9);
-    CHECK(fields[COGHAMMER_FROM_LEN] == 4 && memcmp(datagram + fields[COGHAMMER_FROM_START], address, 4) == 0);
-    CHECK(fields[COGHAMMER_FROM_UDP] == 1 && fields[COGHAMMER_FROM_TCP] == 2);
-    CHECK(fields[COGHAMMER_TO_LEN] == 4 && memcmp(datagram + fields[COGHAMMER_TO_START], other, 4) == 0);
-    CHECK(fields[COGHAMMER_TO_UDP] == 3 && fields[COGHAMMER_HASH_LEN] == 0 && fields[COGHAMMER_RECORD_LEN] == 0);
+    CHECK(fields[COGHAMMER_FIELD_TYPE] == 1 && fields[COGHAMMER_FIELD_VERSION] == 4 && fields[COGHAMMER_FIELD_EXPIRATION] == now_unix);
+    CHECK(fields[COGHAMMER_FIELD_HAS_ENR_SEQ] == 1 && fields[COGHAMMER_FIELD_ENR_SEQ] == 9);
+    CHECK(fields[COGHAMMER_FIELD_FROM_LEN] == 4 && memcmp(datagram + fields[COGHAMMER_FIELD_FROM_START], address, 4) == 0);
+    CHECK(fields[COGHAMMER_FIELD_FROM_UDP] == 1 && fields[COGHAMMER_FIELD_FROM_TCP] == 2);
+    CHECK(fields[COGHAMMER_FIELD_TO_LEN] == 4 && memcmp(datagram + fields[COGHAMMER_FIELD_TO_START], other, 4) == 0);
+    CHECK(fields[COGHAMMER_FIELD_TO_UDP] == 3 && fields[COGHAMMER_FIELD_HASH_LEN] == 0 && fields[COGHAMMER_FIELD_RECORD_LEN] == 0);
 
     // an unknown `from`
     len = datagram_of(datagram, body, coghammer_write_ping(body, LARGEST, address, 0, 1, 2, other, 4, 3, now_unix, true, 9));
-    CHECK(coghammer_packet(datagram, len, fields) == 0 && fields[COGHAMMER_TYPE] == 1);
-    CHECK(fields[COGHAMMER_FROM_START] == 0 && fields[COGHAMMER_FROM_LEN] == 0);
-    CHECK(fields[COGHAMMER_FROM_UDP] == 1 && fields[COGHAMMER_FROM_TCP] == 2);
-    CHECK(fields[COGHAMMER_TO_LEN] == 4 && memcmp(datagram + fields[COGHAMMER_TO_START], other, 4) == 0);
+    CHECK(coghammer_packet(datagram, len, fields) == 0 && fields[COGHAMMER_FIELD_TYPE] == 1);
+    CHECK(fields[COGHAMMER_FIELD_FROM_START] == 0 && fields[COGHAMMER_FIELD_FROM_LEN] == 0);
+    CHECK(fields[COGHAMMER_FIELD_FROM_UDP] == 1 && fields[COGHAMMER_FIELD_FROM_TCP] == 2);
+    CHECK(fields[COGHAMMER_FIELD_TO_LEN] == 4 && memcmp(datagram + fields[COGHAMMER_FIELD_TO_START], other, 4) == 0);
 
     len = datagram_of(datagram, body, coghammer_write_pong(body, LARGEST, address, 4, 3, hash, 32, 7, false, 9));
-    CHECK(coghammer_packet(datagram, len, fields) == 0 && fields[COGHAMMER_TYPE] == 2);
-    CHECK(fields[COGHAMMER_HAS_ENR_SEQ] == 0 && fields[COGHAMMER_ENR_SEQ] == 0);
-    CHECK(fields[COGHAMMER_HASH_LEN] == 32 && memcmp(datagram + fields[COGHAMMER_HASH_START], hash, 32) == 0);
+    CHECK(coghammer_packet(datagram, len, fields) == 0 && fields[COGHAMMER_FIELD_TYPE] == 2);
+    CHECK(fields[COGHAMMER_FIELD_HAS_ENR_SEQ] == 0 && fields[COGHAMMER_FIELD_ENR_SEQ] == 0);
+    CHECK(fields[COGHAMMER_FIELD_HASH_LEN] == 32 && memcmp(datagram + fields[COGHAMMER_FIELD_HASH_START], hash, 32) == 0);
 
     len = datagram_of(datagram, body, coghammer_write_find_node(body, LARGEST, own, 64, 7));
-    CHECK(coghammer_packet(datagram, len, fields) == 0 && fields[COGHAMMER_TYPE] == 3);
-    CHECK(fields[COGHAMMER_TARGET_LEN] == 64 && memcmp(datagram + fields[COGHAMMER_TARGET_START], own, 64) == 0);
+    CHECK(coghammer_packet(datagram, len, fields) == 0 && fields[COGHAMMER_FIELD_TYPE] == 3);
+    CHECK(fields[COGHAMMER_FIELD_TARGET_LEN] == 64 && memcmp(datagram + fields[COGHAMMER_FIELD_TARGET_START], own, 64) == 0);
 
     len = datagram_of(datagram, body, coghammer_write_enr_response(body, LARGEST, hash, 32, record, 3));
-    CHECK(coghammer_packet(datagram, len, fields) == 0 && fields[COGHAMMER_TYPE] == 6);
-    CHECK(fields[COGHAMMER_RECORD_LEN] == 3 && memcmp(datagram + fields[COGHAMMER_RECORD_START], record, 3) == 0);
+    CHECK(coghammer_packet(datagram, len, fields) == 0 && fields[COGHAMMER_FIELD_TYPE] == 6);
+    CHECK(fields[COGHAMMER_FIELD_RECORD_LEN] == 3 && memcmp(datagram + fields[COGHAMMER_FIELD_RECORD_START], record, 3) == 0);
 
     // a refused packet leaves the fields
-    fields[COGHAMMER_VERSION] = 77;
+    fields[COGHAMMER_FIELD_VERSION] = 77;
     CHECK(coghammer_packet(datagram, 97, fields) == 8 && coghammer_packet(datagram, 98, fields) == 9);
     datagram[98] = 0xc0;
     CHECK(coghammer_packet(datagram, len, fields) == 10);
-    CHECK(fields[COGHAMMER_TYPE] == 6 && fields[COGHAMMER_VERSION] == 77);
+    CHECK(fields[COGHAMMER_FIELD_TYPE] == 6 && fields[COGHAMMER_FIELD_VERSION] == 77);
 }
 
 // The nodes of a Neighbors, from packed ones.
 static void neighbors(void) {
-    coghammer_node node = {{0}, {4, {10, 0, 0, 1}, 30303, 30304}};
-    uint8_t packed[12 * PACKED], body[LARGEST], datagram[LARGEST], key[64], at[16];
-    uint64_t fields[COGHAMMER_FIELDS], numbers[3];
+    coghammer_node node = {{0}, {4, {10, 0, 0, 1}, 30303, 30304}}, found;
+    uint8_t packed[12 * PACKED], body[LARGEST], datagram[LARGEST];
+    uint64_t fields[COGHAMMER_FIELDS];
     for (int i = 0; i < 12; i++) {
         memset(node.key, i + 1, 64);
         coghammer_pack_node(packed + PACKED * i, &node);
     }
     size_t len = datagram_of(datagram, body, coghammer_write_neighbors(body, LARGEST, packed, sizeof packed, 7));
-    CHECK(coghammer_packet(datagram, len, fields) == 0 && fields[COGHAMMER_TYPE] == 4);
-    size_t start = fields[COGHAMMER_NODES_START], size = fields[COGHAMMER_NODES_LEN];
+    CHECK(coghammer_packet(datagram, len, fields) == 0 && fields[COGHAMMER_FIELD_TYPE] == 4);
+    size_t start = fields[COGHAMMER_FIELD_NODES_START], size = fields[COGHAMMER_FIELD_NODES_LEN];
     CHECK(coghammer_node_count(datagram, len, start, size) == 12);
     CHECK(coghammer_node_count(datagram, len, len, 1) == 0 && coghammer_node_count(datagram, len, SIZE_MAX, SIZE_MAX) == 0);
-    coghammer_node_at(datagram, len, start, size, 11, key, at, numbers);
-    CHECK(all(key, 64, 12) && memcmp(at, node.endpoint.address, 16) == 0);
-    CHECK(numbers[0] == 4 && numbers[1] == 30303 && numbers[2] == 30304);
+    coghammer_node_at(datagram, len, start, size, 11, &found);
+    CHECK(same_node(&found, &node));
     // the packets of a reply: by plain arithmetic
     for (size_t nodes = 0; nodes < 100; nodes++) {
         size_t packets = nodes ? (nodes + 11) / 12 : 1, done = 0;
@@ -178,8 +198,8 @@ static void neighbors(void) {
         CHECK(done == nodes && coghammer_reply_len(nodes, packets + 1) == 0);
     }
     CHECK(coghammer_reply_len(SIZE_MAX, SIZE_MAX) == 0 && coghammer_reply_count(SIZE_MAX) == SIZE_MAX / 12 + 1);
-    coghammer_node_at(datagram, len, start, size, 12, key, at, numbers);
-    CHECK(all(key, 64, 0) && all(at, 16, 0) && numbers[0] == 0 && numbers[1] == 0 && numbers[2] == 0);
+    coghammer_node_at(datagram, len, start, size, 12, &found);
+    CHECK(same_node(&found, &no_node));
 }
 
 // A boot list read and written, and texts and nodes that can't be.
@@ -249,15 +269,54 @@ static void boot_lists(void) {
     }
 }
 
-static void head(uint8_t number, uint64_t len, uint64_t out, uint64_t since) {
-    uint8_t key[64], at[16];
-    uint64_t numbers[5];
-    memset(key, 0xaa, 64);
-    CHECK(coghammer_head(table, SIZE, peer, 64, key, at, numbers) == number);
-    CHECK(all(key, 64, number ? 0xaa : len ? peer[0] : 0));
-    if (number) return;
-    CHECK(numbers[0] == len && numbers[1] == (len ? 30303 : 0) && numbers[2] == (len ? 30304 : 0));
-    CHECK(numbers[3] == out && numbers[4] == since);
+// A node record is the peer's, or zeros.
+static int is_peer(const coghammer_node *node, int held) {
+    coghammer_node wanted = {{0}, {4, {192, 0, 2, 7}, 30303, 30304}};
+    memcpy(wanted.key, peer, 64);
+    return same_node(node, held ? &wanted : &no_node);
+}
+
+// Whether the peer is its bucket's head, and since when a ping is out to it.
+static void head(int held, uint64_t out, uint64_t since) {
+    coghammer_node node;
+    uint64_t ping[COGHAMMER_HEAD];
+    memset(&node, 0xaa, sizeof node);
+    CHECK(coghammer_head(table, SIZE, peer, 64, &node, ping) == 0 && is_peer(&node, held));
+    CHECK(ping[COGHAMMER_HEAD_PING_OUT] == out && ping[COGHAMMER_HEAD_PING_SINCE] == since);
+}
+
+// The length of the distance of two keys' hashes in bits.
+static unsigned log_distance(const uint8_t *one, const uint8_t *two) {
+    uint8_t a[32], b[32];
+    coghammer_keccak256(one, 64, a);
+    coghammer_keccak256(two, 64, b);
+    for (unsigned i = 0; i < 256; i++)
+        if (((a[i / 8] ^ b[i / 8]) << i % 8) & 0x80) return 256 - i;
+    return 0;
+}
+
+// What the table tells where it holds nothing (0), or the peer alone: with a seat (1) or waiting (2). times: last seen, proof, ping.
+static void tells(uint64_t clock, uint64_t as, const char *times) {
+    enum { ROOM = COGHAMMER_PRINTOUT_SIZE(BUCKETS) };
+    static const char *const words[] = {"", "seat", "wait"};
+    static uint8_t text[ROOM + 1];
+    char wanted[200];
+    uint64_t told[COGHAMMER_STATE], held[COGHAMMER_HELD], size = 77;
+    unsigned distance = log_distance(own, peer);
+    coghammer_node node;
+    memset(&node, 0xaa, sizeof node);
+    memset(text, 0xaa, sizeof text);
+    CHECK(coghammer_state(table, SIZE, told) == 0 && told[COGHAMMER_STATE_CLOCK] == clock && told[COGHAMMER_STATE_BUCKETS] == BUCKETS);
+    CHECK(told[COGHAMMER_STATE_SEATS] == (as == 1) && told[COGHAMMER_STATE_WAITING] == (as == 2));
+    CHECK(coghammer_find(table, SIZE, peer, 64, &node, held) == 0 && is_peer(&node, as != 0) && held[COGHAMMER_HELD_AS] == as);
+    CHECK(held[COGHAMMER_HELD_DISTANCE] == (as ? distance : 0) && held[COGHAMMER_HELD_PLACE] == (as ? 1 : 0));
+
+    int len = snprintf(wanted, sizeof wanted, "table\t%d\t%u\t%d\t%d\n", BUCKETS, (unsigned)clock, as == 1, as == 2);
+    if (as) len += snprintf(wanted + len, sizeof wanted - (size_t)len, "%s\t%u\t1\t0202020202020202\tc0000207\t30303\t30304\t%s\n", words[as], distance, times);
+    CHECK(coghammer_print(text, ROOM - 1, table, SIZE, &size) == 19 && coghammer_print(text, 0, table, SIZE, &size) == 19);
+    CHECK(size == 77 && all(text, sizeof text, 0xaa));
+    CHECK(coghammer_print(text, ROOM, table, SIZE, &size) == 0 && size == (uint64_t)len);
+    CHECK(memcmp(text, wanted, (size_t)len) == 0 && all(text + len, sizeof text - (size_t)len, 0xaa));
 }
 
 static void calls(void) {
@@ -273,25 +332,27 @@ static void calls(void) {
     memcpy(damaged, datagram, len);
     damaged[len - 1] ^= 1;
     CHECK(is(receive(10, datagram, 97), 3, 0) && is(receive(10, damaged, len), 4, 0));
-    CHECK(is(coghammer_datagram(&counters, table, SIZE, 10, now_unix, address, 4, 1, peer, 0, datagram, len), 5, 0));
-    CHECK(is(coghammer_datagram(&counters, table, SIZE, 10, now_unix, address, 3, 1, peer, 64, datagram, len), 6, 0));
-    CHECK(is(coghammer_datagram(&counters, table, SIZE, 10, now_unix, address, 4, 1, own, 64, datagram, len), 7, 0));
-    CHECK(is(coghammer_datagram(&counters, table, SIZE, 10, now_unix + 1, address, 4, 1, peer, 64, datagram, len), 11, 0));
-    CHECK(is(coghammer_datagram(&counters, table, SIZE - 1, 10, now_unix, address, 4, 1, peer, 64, datagram, len), 1, 0));
+    CHECK(is(coghammer_datagram(&counters, table, SIZE, MS(10), UNIX(now_unix), address, 4, 1, peer, 0, datagram, len), 5, 0));
+    CHECK(is(coghammer_datagram(&counters, table, SIZE, MS(10), UNIX(now_unix), address, 3, 1, peer, 64, datagram, len), 6, 0));
+    CHECK(is(coghammer_datagram(&counters, table, SIZE, MS(10), UNIX(now_unix), address, 4, 1, own, 64, datagram, len), 7, 0));
+    CHECK(is(coghammer_datagram(&counters, table, SIZE, MS(10), UNIX(now_unix + 1), address, 4, 1, peer, 64, datagram, len), 11, 0));
+    CHECK(is(coghammer_datagram(&counters, table, SIZE - 1, MS(10), UNIX(now_unix), address, 4, 1, peer, 64, datagram, len), 1, 0));
     CHECK(memcmp(before, table, SIZE) == 0);
     CHECK(is(receive(10, datagram, len), 0, 1 + 256 * 1));
     CHECK(is(receive(9, datagram, len), 2, 0));
 
     // ping sent, its pong
-    CHECK(coghammer_ping_sent(&counters, table, SIZE, 20, peer, 64, address, 4, 1, 2, hash, 31) == 4);
-    CHECK(coghammer_ping_sent(&counters, table, SIZE, 20, peer, 63, address, 4, 1, 2, hash, 32) == 5);
+    CHECK(coghammer_ping_sent(&counters, table, SIZE, MS(20), peer, 64, address, 4, 1, 2, hash, 31) == 4);
+    CHECK(coghammer_ping_sent(&counters, table, SIZE, MS(20), peer, 63, address, 4, 1, 2, hash, 32) == 5);
     CHECK(sent(20) == 0 && sent(20) == 17);
-    CHECK(coghammer_ping_sent(&counters, table, SIZE, 20, peer, 64, other, 4, 30303, 1, hash, 32) == 16);
-    head(0, 0, 0, 0);
+    CHECK(coghammer_ping_sent(&counters, table, SIZE, MS(20), peer, 64, other, 4, 30303, 1, hash, 32) == 16);
+    head(0, 0, 0);
+    tells(20, 2, "0\t-\t20");
     len = datagram_of(datagram, body, coghammer_write_pong(body, LARGEST, address, 4, 3, hash, 32, now_unix, false, 0));
     CHECK(is(receive(521, datagram, len), 15, 0) && is(receive(520, datagram, len), 0, 2 + 256 * 1));
     CHECK(is(receive(520, datagram, len), 14, 0));
-    head(0, 4, 0, 0);
+    head(1, 0, 0);
+    tells(520, 1, "520\t520\tquiet");
 
     // closest
     memset(list, 0xee, sizeof list);
@@ -304,7 +365,7 @@ static void calls(void) {
     // a verified sender
     len = datagram_of(datagram, body, coghammer_write_find_node(body, LARGEST, own, 64, now_unix));
     CHECK(is(receive(530, datagram, len), 0, 3));
-    CHECK(is(coghammer_datagram(&counters, table, SIZE, 530, now_unix, other, 4, 30303, peer, 64, datagram, len), 13, 0));
+    CHECK(is(coghammer_datagram(&counters, table, SIZE, MS(530), UNIX(now_unix), other, 4, 30303, peer, 64, datagram, len), 13, 0));
     len = datagram_of(datagram, body, coghammer_write_neighbors(body, LARGEST, datagram, 0, now_unix));
     CHECK(is(receive(530, datagram, len), 0, 4));
     len = datagram_of(datagram, body, coghammer_write_enr_request(body, LARGEST, now_unix));
@@ -315,11 +376,13 @@ static void calls(void) {
 
     // a ping unanswered
     CHECK(sent(600) == 0);
-    head(0, 4, 1, 600);
-    CHECK(coghammer_sweep(&counters, table, SIZE, 599) == 2 && coghammer_sweep(&counters, table, SIZE, 1100) == 0);
-    head(0, 4, 1, 600);
-    CHECK(coghammer_sweep(&counters, table, SIZE, 1101) == 0);
-    head(0, 0, 0, 0);
+    head(1, 1, 600);
+    tells(600, 1, "530\t520\t600");
+    CHECK(coghammer_sweep(&counters, table, SIZE, MS(599)) == 2 && coghammer_sweep(&counters, table, SIZE, MS(1100)) == 0);
+    head(1, 1, 600);
+    CHECK(coghammer_sweep(&counters, table, SIZE, MS(1101)) == 0);
+    head(0, 0, 0);
+    tells(1101, 0, NULL);
 
     static const uint32_t wanted[22] = {[0] = 10, [1] = 1, [2] = 2, [3] = 1, [4] = 2, [5] = 2, [6] = 1, [7] = 1,
                                         [11] = 1, [13] = 1, [14] = 1, [15] = 1, [16] = 1, [17] = 1};
@@ -327,13 +390,21 @@ static void calls(void) {
 }
 
 static void unsound(void) {
-    uint8_t key[64], at[16];
-    uint64_t numbers[5];
-    CHECK(coghammer_head(table, SIZE, own, 64, key, at, numbers) == 7 && coghammer_head(table, SIZE, own, 63, key, at, numbers) == 5);
+    coghammer_node node, kept;
+    uint64_t told[COGHAMMER_STATE] = {77, 77, 77, 77}, size = 77;
+    uint8_t text[100];
+    memset(&node, 0xaa, sizeof node);
+    kept = node;
+    memset(text, 0xaa, sizeof text);
+    CHECK(coghammer_head(table, SIZE, own, 64, &node, told) == 7 && coghammer_head(table, SIZE, own, 63, &node, told) == 5);
+    CHECK(coghammer_find(table, SIZE, own, 64, &node, told) == 7 && coghammer_find(table, SIZE, own, 63, &node, told) == 5);
     table[100] = 1;
     memcpy(before, table, SIZE);
-    head(1, 0, 0, 0);
-    CHECK(coghammer_sweep(&counters, table, SIZE, 2000) == 1 && sent(2000) == 1 && memcmp(before, table, SIZE) == 0);
+    CHECK(coghammer_head(table, SIZE, peer, 64, &node, told) == 1 && coghammer_find(table, SIZE, peer, 64, &node, told) == 1);
+    CHECK(coghammer_state(table, SIZE, told) == 1 && coghammer_state(table, SIZE - 1, told) == 1);
+    CHECK(coghammer_print(text, sizeof text, table, SIZE, &size) == 1 && size == 77 && all(text, sizeof text, 0xaa));
+    CHECK(same_node(&node, &kept) && told[0] == 77 && told[1] == 77 && told[2] == 77 && told[3] == 77);
+    CHECK(coghammer_sweep(&counters, table, SIZE, MS(2000)) == 1 && sent(2000) == 1 && memcmp(before, table, SIZE) == 0);
 }
 
 int main(void) {
@@ -342,6 +413,7 @@ int main(void) {
     memset(signature, 3, 65);
     memset(hash, 4, 32);
     layout();
+    texts();
     hashes();
     fresh();
     writers();

@@ -123,20 +123,28 @@ static uint64_t call(function *f, const lent *arguments, const uint64_t *numbers
 
 // ---- the functions
 
+// A node record has a byte between its fields, which is nobody's: a call that stores a record may change it.
+static void settle(void *records, size_t len) {
+    for (size_t at = offsetof(coghammer_node, endpoint) + offsetof(coghammer_endpoint, udp) - 1; at < len; at += sizeof(coghammer_node))
+        ((uint8_t *)records)[at] = 0;
+}
+
 static uint64_t init(uint8_t **p, const size_t *len, const uint64_t *n) { return coghammer_init(p[0], len[0], p[1], len[1], n[0]); }
 static uint64_t datagram(uint8_t **p, const size_t *len, const uint64_t *n) {
-    return coghammer_datagram((coghammer_counters *)p[0], p[1], len[1], n[0], n[1], p[2], len[2], (uint16_t)n[2], p[3], len[3], p[4], len[4]);
+    return coghammer_datagram((coghammer_counters *)p[0], p[1], len[1], (coghammer_millis){n[0]}, (coghammer_unix){n[1]}, p[2], len[2], (uint16_t)n[2], p[3], len[3], p[4], len[4]);
 }
 static uint64_t ping_sent(uint8_t **p, const size_t *len, const uint64_t *n) {
-    return coghammer_ping_sent((coghammer_counters *)p[0], p[1], len[1], n[0], p[2], len[2], p[3], len[3], (uint16_t)n[1], (uint16_t)n[2],
+    return coghammer_ping_sent((coghammer_counters *)p[0], p[1], len[1], (coghammer_millis){n[0]}, p[2], len[2], p[3], len[3], (uint16_t)n[1], (uint16_t)n[2],
                                p[4], len[4]);
 }
 static uint64_t sweep(uint8_t **p, const size_t *len, const uint64_t *n) {
-    return coghammer_sweep((coghammer_counters *)p[0], p[1], len[1], n[0]);
+    return coghammer_sweep((coghammer_counters *)p[0], p[1], len[1], (coghammer_millis){n[0]});
 }
 static uint64_t closest(uint8_t **p, const size_t *len, const uint64_t *n) {
     (void)n;
-    return coghammer_closest((coghammer_node *)p[0], len[0] / sizeof(coghammer_node), p[1], len[1], p[2], len[2]);
+    uint32_t code = coghammer_closest((coghammer_node *)p[0], len[0] / sizeof(coghammer_node), p[1], len[1], p[2], len[2]);
+    settle(p[0], len[0]);
+    return code;
 }
 static uint64_t clear(uint8_t **p, const size_t *len, const uint64_t *n) {
     (void)len, (void)n;
@@ -145,7 +153,23 @@ static uint64_t clear(uint8_t **p, const size_t *len, const uint64_t *n) {
 }
 static uint64_t head(uint8_t **p, const size_t *len, const uint64_t *n) {
     (void)n;
-    return coghammer_head(p[0], len[0], p[1], len[1], p[2], p[3], (uint64_t *)p[4]);
+    uint8_t number = coghammer_head(p[0], len[0], p[1], len[1], (coghammer_node *)p[2], (uint64_t *)p[3]);
+    settle(p[2], len[2]);
+    return number;
+}
+static uint64_t find(uint8_t **p, const size_t *len, const uint64_t *n) {
+    (void)n;
+    uint8_t number = coghammer_find(p[0], len[0], p[1], len[1], (coghammer_node *)p[2], (uint64_t *)p[3]);
+    settle(p[2], len[2]);
+    return number;
+}
+static uint64_t table_state(uint8_t **p, const size_t *len, const uint64_t *n) {
+    (void)n;
+    return coghammer_state(p[0], len[0], (uint64_t *)p[1]);
+}
+static uint64_t print(uint8_t **p, const size_t *len, const uint64_t *n) {
+    (void)n;
+    return coghammer_print(p[0], len[0], p[1], len[1], (uint64_t *)p[2]);
 }
 static uint64_t packet(uint8_t **p, const size_t *len, const uint64_t *n) {
     (void)n;
@@ -153,7 +177,8 @@ static uint64_t packet(uint8_t **p, const size_t *len, const uint64_t *n) {
 }
 static uint64_t node_count(uint8_t **p, const size_t *len, const uint64_t *n) { return coghammer_node_count(p[0], len[0], n[0], n[1]); }
 static uint64_t node_at(uint8_t **p, const size_t *len, const uint64_t *n) {
-    coghammer_node_at(p[0], len[0], n[0], n[1], n[2], p[1], p[2], (uint64_t *)p[3]);
+    coghammer_node_at(p[0], len[0], n[0], n[1], n[2], (coghammer_node *)p[1]);
+    settle(p[1], len[1]);
     return 0;
 }
 static uint64_t write_ping(uint8_t **p, const size_t *len, const uint64_t *n) {
@@ -185,7 +210,9 @@ static uint64_t keccak256(uint8_t **p, const size_t *len, const uint64_t *n) {
 
 static uint64_t read_enodes(uint8_t **p, const size_t *len, const uint64_t *n) {
     (void)n;
-    return coghammer_read_enodes((coghammer_node *)p[0], len[0] / sizeof(coghammer_node), p[1], len[1], (uint64_t *)p[2]);
+    uint8_t number = coghammer_read_enodes((coghammer_node *)p[0], len[0] / sizeof(coghammer_node), p[1], len[1], (uint64_t *)p[2]);
+    settle(p[0], len[0]);
+    return number;
 }
 static uint64_t write_enodes(uint8_t **p, const size_t *len, const uint64_t *n) {
     (void)n;
@@ -343,35 +370,33 @@ static void read_datagram(void) {
         check(memcmp(fields, before, sizeof fields) == 0, "a refused packet wrote fields");
         return;
     }
-    static const int spans[] = {COGHAMMER_FROM_START, COGHAMMER_TO_START, COGHAMMER_HASH_START, COGHAMMER_TARGET_START, COGHAMMER_NODES_START,
-                                COGHAMMER_RECORD_START};
+    static const int spans[] = {COGHAMMER_FIELD_FROM_START, COGHAMMER_FIELD_TO_START, COGHAMMER_FIELD_HASH_START, COGHAMMER_FIELD_TARGET_START, COGHAMMER_FIELD_NODES_START,
+                                COGHAMMER_FIELD_RECORD_START};
     for (int i = 0; i < 6; i++) check(fields[spans[i]] <= wire_len && fields[spans[i] + 1] <= wire_len - fields[spans[i]], "a field lies outside");
-    check(fields[COGHAMMER_TYPE] >= 1 && fields[COGHAMMER_TYPE] <= 6, "a type that isn't there");
-    uint64_t from = fields[COGHAMMER_FROM_LEN], to = fields[COGHAMMER_TO_LEN];
-    if (fields[COGHAMMER_TYPE] == 1) check(from == 4 || from == 16 || (from == 0 && fields[COGHAMMER_FROM_START] == 0), "a `from` that can't be");
-    if (fields[COGHAMMER_TYPE] <= 2) check(to == 4 || to == 16, "a `to` that can't be");
-    if (fields[COGHAMMER_TYPE] != 4) return;
-    uint64_t n[] = {fields[COGHAMMER_NODES_START], fields[COGHAMMER_NODES_LEN], 0};
+    check(fields[COGHAMMER_FIELD_TYPE] >= 1 && fields[COGHAMMER_FIELD_TYPE] <= 6, "a type that isn't there");
+    uint64_t from = fields[COGHAMMER_FIELD_FROM_LEN], to = fields[COGHAMMER_FIELD_TO_LEN];
+    if (fields[COGHAMMER_FIELD_TYPE] == 1) check(from == 4 || from == 16 || (from == 0 && fields[COGHAMMER_FIELD_FROM_START] == 0), "a `from` that can't be");
+    if (fields[COGHAMMER_FIELD_TYPE] <= 2) check(to == 4 || to == 16, "a `to` that can't be");
+    if (fields[COGHAMMER_FIELD_TYPE] != 4) return;
+    uint64_t n[] = {fields[COGHAMMER_FIELD_NODES_START], fields[COGHAMMER_FIELD_NODES_LEN], 0};
     uint64_t count = call(node_count, (lent[6]){{wire, wire_len, NULL}}, n);
     if (wire_len <= LARGEST) check(count <= 15, "a Neighbors of more than 15 nodes");
     for (n[2] = 0; n[2] <= count; n[2]++) {
-        uint8_t key[64], address[16];
-        uint64_t numbers[3];
-        fill(key, 64), fill(address, 16), fill((uint8_t *)numbers, 24);
-        call(node_at, (lent[6]){{wire, wire_len, NULL}, {key, 64, key}, {address, 16, address}, {numbers, 24, numbers}}, n);
-        bool right = n[2] < count ? numbers[0] == 4 || numbers[0] == 16 : numbers[0] == 0;
-        check(right && numbers[1] <= 65535 && numbers[2] <= 65535, "a node that can't be");
+        coghammer_node node;
+        fill((uint8_t *)&node, sizeof node);
+        call(node_at, (lent[6]){{wire, wire_len, NULL}, {&node, sizeof node, &node}}, n);
+        check(n[2] < count ? node.endpoint.len == 4 || node.endpoint.len == 16 : node.endpoint.len == 0, "a node that can't be");
     }
 }
 
 // Nodes by a start and a length that no packet gave.
 static void any_span(void) {
-    uint8_t key[64], address[16];
-    uint64_t numbers[3], n[] = {any_size(), any_size(), any_size()};
+    coghammer_node node;
+    uint64_t n[] = {any_size(), any_size(), any_size()};
     if (chance(70)) n[0] = below(wire_len + 2), n[1] = below(wire_len + 2), n[2] = below(4);
-    fill(key, 64), fill(address, 16), fill((uint8_t *)numbers, 24);
+    fill((uint8_t *)&node, sizeof node);
     call(node_count, (lent[6]){{wire, wire_len, NULL}}, n);
-    call(node_at, (lent[6]){{wire, wire_len, NULL}, {key, 64, key}, {address, 16, address}, {numbers, 24, numbers}}, n);
+    call(node_at, (lent[6]){{wire, wire_len, NULL}, {&node, sizeof node, &node}}, n);
 }
 
 // Every room up to what a value needs.
@@ -421,6 +446,7 @@ static size_t read_text(size_t len, size_t count) {
     uint64_t before[COGHAMMER_TOLD], told[COGHAMMER_TOLD];
     fill((uint8_t *)before, sizeof before);
     fill((uint8_t *)boot_before, sizeof boot_before);
+    settle(boot_before, sizeof boot_before);
     uint64_t number = call(read_enodes, (lent[6]){{boot_before, count * sizeof boot[0], boot_after}, {text, len, NULL}, {before, sizeof before, told}}, NULL);
     size_t found = told[COGHAMMER_TOLD_COUNT];
     uint64_t end = told[COGHAMMER_TOLD_END];
@@ -493,6 +519,7 @@ static void find_closest(const uint8_t *memory, size_t len) {
     static coghammer_node before[18], list[18];
     size_t count = chance(80) ? 16 : below(18);
     fill((uint8_t *)before, sizeof before);
+    settle(before, sizeof before);
     uint64_t code = call(closest, (lent[6]){{before, count * sizeof before[0], list}, {memory, len, NULL}, {peers[0].key, about(64), NULL}}, NULL);
     uint8_t number = COGHAMMER_NUMBER(code);
     size_t found = COGHAMMER_VALUE(code);
@@ -501,15 +528,34 @@ static void find_closest(const uint8_t *memory, size_t len) {
     check(memcmp(before + found, list + found, (count - found) * sizeof before[0]) == 0, "records after the count changed");
 }
 
-static void find_head(const uint8_t *memory, size_t len, const peer *of) {
-    uint8_t key[64], address[16], kept[64];
-    uint64_t numbers[5];
-    fill(key, 64), fill(address, 16), fill((uint8_t *)numbers, 40);
-    memcpy(kept, key, 64);
-    lent of_key = {of->key, about(64), NULL};
-    uint64_t number = call(head, (lent[6]){{memory, len, NULL}, of_key, {key, 64, key}, {address, 16, address}, {numbers, 40, numbers}}, NULL);
-    check(number == 0 || number == 1 || number == 5 || number == 7 || number == 12, "head gave another number");
-    if (number) check(memcmp(kept, key, 64) == 0, "a refused head wrote");
+// Asks for the head of a key's bucket (2 numbers), or where its node is held (3).
+static void ask_of_key(function *f, size_t numbers, const uint8_t *memory, size_t len, const peer *of) {
+    coghammer_node before, node;
+    uint64_t kept[3], told[3];
+    fill((uint8_t *)&before, sizeof before), fill((uint8_t *)kept, sizeof kept);
+    settle(&before, sizeof before);
+    lent of_key = {of->key, about(64), NULL}, to_node = {&before, sizeof before, &node}, to_told = {kept, numbers * 8, told};
+    uint64_t number = call(f, (lent[6]){{memory, len, NULL}, of_key, to_node, to_told}, NULL);
+    check(number == 0 || number == 1 || number == 5 || number == 7 || number == 12, "a question of a key gave another number");
+    if (number) check(memcmp(&before, &node, sizeof node) == 0 && memcmp(kept, told, numbers * 8) == 0, "a refused question wrote");
+    else check(told[0] <= numbers - 1, "a question of a key told another number");
+}
+
+// Asks for the state and the printout, in a room that is right as a rule.
+static void ask_of_table(const uint8_t *memory, size_t len) {
+    static uint8_t before[MOST], text[MOST];
+    uint64_t kept[4], told[4], size_before = any(), size;
+    fill((uint8_t *)kept, sizeof kept);
+    uint64_t number = call(table_state, (lent[6]){{memory, len, NULL}, {kept, sizeof kept, told}}, NULL);
+    check(number == 0 || number == 1, "the state gave another number");
+    if (number) check(memcmp(kept, told, sizeof kept) == 0, "a refused state wrote");
+    size_t needed = COGHAMMER_PRINTOUT_SIZE(number ? 1 : told[1]), space = chance(80) ? needed : below(needed + 1) + chance(20);
+    fill(before, 1000);
+    uint64_t answer = call(print, (lent[6]){{before, space, text}, {memory, len, NULL}, {&size_before, 8, &size}}, NULL);
+    check(answer == (number ? 1 : space < needed ? 19 : 0), "the printout gave another number");
+    size_t written = answer ? 0 : size;
+    check(answer ? size == size_before : size > 0 && size <= space && text[size - 1] == '\n', "the printout told another size");
+    check(memcmp(before + written, text + written, space - written) == 0, "bytes behind the printout changed");
 }
 
 // One call on a memory; whether it was accepted.
@@ -521,7 +567,11 @@ static bool step(uint8_t *memory, size_t len, uint64_t clock) {
     case 1:
     case 2: code = record_ping(memory, len, p, clock); break;
     case 3: find_closest(memory, len); return false;
-    case 4: find_head(memory, len, p); return false;
+    case 4:
+        if (chance(30)) ask_of_table(memory, len);
+        else if (chance(50)) ask_of_key(head, COGHAMMER_HEAD, memory, len, p);
+        else ask_of_key(find, COGHAMMER_HELD, memory, len, p);
+        return false;
     default:
         if (!make_datagram((unsigned)(chance(50) ? 2 : 1 + below(6)), p)) return false;
         if (chance(30)) mutate_datagram();

@@ -1,5 +1,6 @@
 // bootnodes [FILE]: prints the nodes of the boot list in the file, or of standard input, a row each, and then how it ended: `complete` and the number
-// of nodes, or 22 and the number of the line that does not fit. A file that can't be opened or read is reported on standard error.
+// of nodes, or 22 and the number of the line that does not fit. A file that can't be opened or read is reported on standard error, and so is a write that
+// fails; either ends the program.
 ghost use mathlib.Core.Path.{_≡_};
 ghost use mathlib.Core.Bool.{true};
 ghost use Prim.Native.Nat.{_≤_, _<_};
@@ -18,7 +19,7 @@ struct Progress {
     begun: Begun,
     // The nodes printed.
     count: u64,
-    // A line did not fit, or a read failed.
+    // A line did not fit, or a read or a write failed.
     unfit: bool,
     failed: bool,
     // Where the chunk goes on, and whether there is more of it.
@@ -26,39 +27,39 @@ struct Progress {
     more: bool,
 }
 
-// ---- the rows
+// ---- the rows; each function tells whether all was written
 
-fn print_tab() {
-    io::write_all(STDOUT_FILENO, b"\t");
+fn print_tab() -> bool {
+    io::write_all(STDOUT_FILENO, b"\t")
 }
 
-fn print_end() {
-    io::write_all(STDOUT_FILENO, b"\n");
+fn print_end() -> bool {
+    io::write_all(STDOUT_FILENO, b"\n")
 }
 
 // The first 8 bytes of a key.
-fn print_key(key: [u8; 64]) {
-    io::print_hex(STDOUT_FILENO, octets::number_at(&key[0..8], 0, 8), 16);
+fn print_key(key: [u8; 64]) -> bool {
+    io::print_hex(STDOUT_FILENO, octets::number_at(&key[0..8], 0, 8), 16)
 }
 
 // The 4 bytes of an IPv4 address.
-fn print_address(address: [u8; 16]) {
-    io::print_hex(STDOUT_FILENO, octets::number_at(&address[0..4], 0, 4), 8);
+fn print_address(address: [u8; 16]) -> bool {
+    io::print_hex(STDOUT_FILENO, octets::number_at(&address[0..4], 0, 4), 8)
 }
 
 // A node's row: key, address, UDP port, TCP port.
-fn print_node(node: Node) {
+fn print_node(node: Node) -> bool {
     let key = node.key;
     let endpoint = node.endpoint;
     let address = endpoint.address;
-    print_key(key);
-    print_tab();
-    print_address(address);
-    print_tab();
-    io::print_decimal(STDOUT_FILENO, endpoint.udp as u64);
-    print_tab();
-    io::print_decimal(STDOUT_FILENO, endpoint.tcp as u64);
-    print_end();
+    print_key(key)
+        && print_tab()
+        && print_address(address)
+        && print_tab()
+        && io::print_decimal(STDOUT_FILENO, endpoint.udp as u64)
+        && print_tab()
+        && io::print_decimal(STDOUT_FILENO, endpoint.tcp as u64)
+        && print_end()
 }
 
 // The number after `count`. No text has so many lines that it stays the same.
@@ -70,31 +71,35 @@ fn one_more(count: u64) -> u64 {
 }
 
 // The row of how the text ended.
-fn print_ending(count: u64, unfit: bool) {
+fn print_ending(count: u64, unfit: bool) -> bool {
     if unfit {
-        io::print_decimal(STDOUT_FILENO, 22);
-        print_tab();
-        io::print_decimal(STDOUT_FILENO, one_more(count));
-    } else {
-        io::write_all(STDOUT_FILENO, b"complete");
-        print_tab();
-        io::print_decimal(STDOUT_FILENO, count);
+        return io::print_decimal(STDOUT_FILENO, 22)
+            && print_tab()
+            && io::print_decimal(STDOUT_FILENO, one_more(count))
+            && print_end();
     }
-    print_end();
+    io::write_all(STDOUT_FILENO, b"complete")
+        && print_tab()
+        && io::print_decimal(STDOUT_FILENO, count)
+        && print_end()
+}
+
+fn report_write() {
+    os::fail(b"standard output");
 }
 
 // ---- the lines
 
-// A line that does not fit ends the reading.
-fn take_unfit(count: u64, next: usize) -> Progress
+// The reading ends: a line does not fit, or else a write failed.
+fn stop(count: u64, unfit: bool, next: usize) -> Progress
     ensures { λ r. ⌜ (r .begun ≡ fresh) × (r .at ≡ next) ⌝ }
 {
     let begun = Begun::new();
     Progress {
         begun,
         count,
-        unfit: true,
-        failed: false,
+        unfit,
+        failed: !unfit,
         at: next,
         more: false,
     }
@@ -106,10 +111,13 @@ fn take_line(line: &[u8], count: u64, next: usize) -> Progress
 {
     let enode = enode::read_enode(line);
     if !enode.fits {
-        return take_unfit(count, next);
+        return stop(count, true, next);
     }
     let node = enode.node;
-    print_node(node);
+    if !print_node(node) {
+        report_write();
+        return stop(count, false, next);
+    }
     let begun = Begun::new();
     Progress {
         begun,
@@ -132,7 +140,7 @@ fn turn(buffer: &mut [u8], chunk: &[u8], p: Progress) -> Progress
     let at = p.at;
     match log_lines::next_line(buffer, begun, chunk, at) {
         Step::Line { len, next } => take_line(&buffer[0..len], count, next),
-        Step::TooLong { next } => take_unfit(count, next),
+        Step::TooLong { next } => stop(count, true, next),
         Step::More(begun) => Progress {
             begun,
             count,
@@ -158,7 +166,7 @@ fn take_chunk(buffer: &mut [u8], chunk: &[u8], p: Progress) -> Progress
     q
 }
 
-// Reads one chunk and takes its lines; there is no more at the text's end, after a line that does not fit, or where a read fails.
+// Reads one chunk and takes its lines; there is no more at the text's end, after a line that does not fit, or where a read or a write fails.
 fn read_chunk(fd: i32, name: &[u8], buffer: &mut [u8], p: Progress) -> Progress
     requires { ⌜ Ready (now buffer) p ⌝ }
     ensures { λ r. ⌜ Ready (now (buffer .exit)) r ⌝ }
@@ -177,7 +185,7 @@ fn read_chunk(fd: i32, name: &[u8], buffer: &mut [u8], p: Progress) -> Progress
     }
     let n = io::count(got, &chunk);
     let mut r = take_chunk(buffer, &chunk[0..n], q);
-    r.more = !r.unfit;
+    r.more = !(r.unfit || r.failed);
     r
 }
 
@@ -204,7 +212,7 @@ fn take_last(buffer: &[u8], p: Progress) -> Progress
     let count = p.count;
     match log_lines::last_line(begun) {
         Last::Line { len } => take_line(&buffer[0..len], count, 0),
-        Last::TooLong => take_unfit(count, 0),
+        Last::TooLong => stop(count, true, 0),
         Last::Nothing => p,
     }
 }
@@ -234,7 +242,12 @@ fn print_list(fd: i32, name: &[u8]) {
         return;
     }
     let r = take_last(&buffer, q);
-    print_ending(r.count, r.unfit);
+    if r.failed {
+        return;
+    }
+    if !print_ending(r.count, r.unfit) {
+        report_write();
+    }
 }
 
 fn main() {

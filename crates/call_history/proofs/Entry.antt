@@ -1,4 +1,4 @@
--- A node loses its entry exactly at an accepted sweep more than 500 ms after an open ping.
+-- A node loses its entry exactly at an accepted sweep more than `pingTimeout` after an open ping.
 use Prim.Native.Nat.{ℕ, _+_, _-_, _<_}
 use mathlib.Core.Path.{_≡_, refl, ap}
 use mathlib.Core.Logic.{_⊎_, inl, inr, ⊎-elim}
@@ -66,11 +66,11 @@ module _ (now : ℕ) (key : Bytes) (b : Contents) where
 
 -- ---- a ping and a sweep
 
-overdue-out : (t : ℕ) (pi : PingState) → isOverdue t pi ≡ true → (t₀ : ℕ) × (pi ≡ Out (millis t₀)) × (t₀ + 500 < t)
+overdue-out : (t : ℕ) (pi : PingState) → isOverdue t pi ≡ true → (t₀ : ℕ) × (pi ≡ Out (millis t₀)) × (t₀ + pingTimeout < t)
 overdue-out t Quiet h = never (let z : true ≡ false = cc in z)
 overdue-out t (Out t₀) h = (t₀ .0, refl, omega (arith, ltb-true pingTimeout (t - t₀ .0) h))
 
-out-overdue : (t t₀ : ℕ) (p : Entry) → p .ping ≡ Out (millis t₀) → t₀ + 500 < t → staysEntry t p ≡ false
+out-overdue : (t t₀ : ℕ) (p : Entry) → p .ping ≡ Out (millis t₀) → t₀ + pingTimeout < t → staysEntry t p ≡ false
 out-overdue t t₀ p h g = rw (h, lt-ltb pingTimeout (t - t₀) (omega arith))
 
 module _ (e : Env) (s : Table) (ok : TableSound e s) (X : Bytes) (has : HasEntry e X s) where
@@ -108,19 +108,19 @@ module _ (e : Env) (s : Table) (ok : TableSound e s) (X : Bytes) (has : HasEntry
 
 module _ (e : Env) (r : Run e) (ok : TableSound e (r .table)) (known : (X : Bytes) → KnownIn e X (r .log) (bucketOf e (r .table) X)) where
   module _ (X : Bytes) (has : HasEntry e X (r .table)) (t : ℕ) (a : Accepted e (r .table) (sweep t)) where
-    taken-overdue : (HasEntry e X (next e (r .table) (sweep t)) → ⊥) → (t₀ : ℕ) × OpenPing e X t₀ (r .log) × (t₀ + 500 < t)
+    taken-overdue : (HasEntry e X (next e (r .table) (sweep t)) → ⊥) → (t₀ : ℕ) × OpenPing e X t₀ (r .log) × (t₀ + pingTimeout < t)
     taken-overdue gone =
         let left = ap length (swept-entry e (r .table) ok X has t a) in
         let lost = failing (Known e X (r .log)) (staysEntry t) (entryOf e X (r .table)) (known X .0) has (omega arith) in
         let late = overdue-out t (lost .0 .ping) (not-false (isOverdue t (lost .0 .ping)) (lost .2)) in
         (late .0, lost .1 .recorded (late .0) (late .1), late .2)
 
-    all-overdue : (t₀ : ℕ) → OpenPing e X t₀ (r .log) → t₀ + 500 < t → (l : List Entry)
+    all-overdue : (t₀ : ℕ) → OpenPing e X t₀ (r .log) → t₀ + pingTimeout < t → (l : List Entry)
         → All (Known e X (r .log)) l → All (λ p. isProved (p .proof) ≡ true) l → All (λ p. staysEntry t p ≡ false) l
     all-overdue t₀ o h [] k p = tt
     all-overdue t₀ o h (p ∷ l) k pr = (out-overdue t t₀ p (k .0 .only (pr .0) t₀ o) h, all-overdue t₀ o h l (k .1) (pr .1))
 
-    overdue-taken : (t₀ : ℕ) → OpenPing e X t₀ (r .log) → t₀ + 500 < t → HasEntry e X (next e (r .table) (sweep t)) → ⊥
+    overdue-taken : (t₀ : ℕ) → OpenPing e X t₀ (r .log) → t₀ + pingTimeout < t → HasEntry e X (next e (r .table) (sweep t)) → ⊥
     overdue-taken t₀ o h after =
         let was = entryOf e X (r .table) in
         let is-proved = All-select (λ p. isProved (p .proof) ≡ true) (isOf X) (bucketOf e (r .table) X .entries) (ok .each (slot e X) .entries-proved) in

@@ -1,5 +1,5 @@
 -- Worked examples of the rules, each by computation, with a stand-in for Keccak-256 and readings named by a datagram's first byte.
-use Prim.Native.Nat.{ℕ}
+use Prim.Native.Nat.{ℕ, _+_}
 use mathlib.Core.Path.{_≡_, refl}
 use mathlib.Core.List.{List, [], _∷_, _++_, map, flatMap}
 use lib.Count.{leadingZeros}
@@ -8,7 +8,7 @@ use Rattle.octets.specs.Octets.{Bytes, numberFrom, number, bigEndian, sameBytes
 use Rattle.entry.specs.declared.Entry.{Entry}
 use Rattle.entry.specs.declared.EndpointProof.the-variants.{At}
 use Rattle.entry.specs.declared.PingState.the-variants.{Quiet}
-use Rattle.bucket_model.specs.Rules.{millis, endpointOf, onPingSent, onPong, onHeard, onSweep}
+use Rattle.bucket_model.specs.Rules.{pingTimeout, millis, endpointOf, onPingSent, onPong, onHeard, onSweep}
 use Rattle.distance.specs.Distance.{distance, bitLength}
 use Rattle.call_history.specs.Model.{Env, Reading, refused, wrongLength, ping, pong, Call, datagram, pingSent, sweep, bucketNumber, datagramRefusals, pingSentRefusals, fresh, bucketOf, answers, run}
 use Rattle.call_history.specs.Words.{tailed}
@@ -64,12 +64,12 @@ pub answered : entriesAfter (pingTo 0 100 ∷ pongFrom 0 250 ∷ [])
 unfolding bucketNumber distance bitLength leadingZeros numberFrom bigEndian sameBytes datagramRefusals pingSentRefusals onPingSent onPong
 answered = refl
 
--- a pong after 500 ms is in time, after 501 late
-pub pong-in-time : answers toy (fresh toy) (pingTo 0 100 ∷ pongFrom 0 600 ∷ []) ≡ 0 ∷ 0 ∷ []
+-- a pong at the timeout is in time, a millisecond after it late
+pub pong-in-time : answers toy (fresh toy) (pingTo 0 100 ∷ pongFrom 0 (100 + pingTimeout) ∷ []) ≡ 0 ∷ 0 ∷ []
 unfolding bucketNumber distance bitLength leadingZeros numberFrom bigEndian sameBytes datagramRefusals pingSentRefusals onPingSent onPong
 pong-in-time = refl
 
-pub pong-late : answers toy (fresh toy) (pingTo 0 100 ∷ pongFrom 0 601 ∷ []) ≡ 0 ∷ 15 ∷ []
+pub pong-late : answers toy (fresh toy) (pingTo 0 100 ∷ pongFrom 0 (101 + pingTimeout) ∷ []) ≡ 0 ∷ 15 ∷ []
 unfolding bucketNumber distance bitLength leadingZeros numberFrom bigEndian sameBytes datagramRefusals pingSentRefusals onPingSent onPong
 pong-late = refl
 
@@ -84,14 +84,14 @@ refusals = refl
 abbrev names : List Entry → List ℕ
 names = map (λ p. getD (p .key) 33 0)
 
--- a sweep 500 ms after an open ping keeps the entry, 501 ms after takes it
-pub kept-at-500 : names (entriesAfter (pingTo 0 100 ∷ pongFrom 0 250 ∷ pingTo 0 1000 ∷ sweep 1500 ∷ [])) ≡ 0 ∷ []
+-- a sweep at an open ping's timeout keeps the entry, a millisecond after it takes it
+pub kept-at-the-timeout : names (entriesAfter (pingTo 0 100 ∷ pongFrom 0 250 ∷ pingTo 0 1000 ∷ sweep (1000 + pingTimeout) ∷ [])) ≡ 0 ∷ []
 unfolding bucketNumber distance bitLength leadingZeros numberFrom bigEndian sameBytes datagramRefusals pingSentRefusals onPingSent onPong onSweep
-kept-at-500 = refl
+kept-at-the-timeout = refl
 
-pub taken-at-501 : names (entriesAfter (pingTo 0 100 ∷ pongFrom 0 250 ∷ pingTo 0 1000 ∷ sweep 1501 ∷ [])) ≡ []
+pub taken-after-the-timeout : names (entriesAfter (pingTo 0 100 ∷ pongFrom 0 250 ∷ pingTo 0 1000 ∷ sweep (1001 + pingTimeout) ∷ [])) ≡ []
 unfolding bucketNumber distance bitLength leadingZeros numberFrom bigEndian sameBytes datagramRefusals pingSentRefusals onPingSent onPong onSweep
-taken-at-501 = refl
+taken-after-the-timeout = refl
 
 -- why the readings must not fall: a stranger's packet with a later reading has the node's own pong refused, and the sweep takes it
 pub clock-ahead : answers toy (fresh toy) (pingTo 0 100 ∷ pongFrom 0 250 ∷ pingTo 0 1000 ∷ packetFrom 9 5000 ∷ pongFrom 0 1200 ∷ sweep 6000 ∷ [])
@@ -116,7 +116,7 @@ abbrev eighteen : List Call
 eighteen = flatMap (λ n. pingTo n 0 ∷ pongFrom n 0 ∷ []) (0 ∷ 1 ∷ 2 ∷ 3 ∷ 4 ∷ 5 ∷ 6 ∷ 7 ∷ 8 ∷ 9 ∷ 10 ∷ 11 ∷ 12 ∷ 13 ∷ 14 ∷ 15 ∷ 16 ∷ 17 ∷ [])
 
 -- node 0 doesn't answer its ping: its entry goes to the first in line, although the second was seen since
-pub in-turn : names (entriesAfter (eighteen ++ (packetFrom 17 10 ∷ pingTo 0 100 ∷ sweep 601 ∷ [])))
+pub in-turn : names (entriesAfter (eighteen ++ (packetFrom 17 10 ∷ pingTo 0 100 ∷ sweep (101 + pingTimeout) ∷ [])))
     ≡ 1 ∷ 2 ∷ 3 ∷ 4 ∷ 5 ∷ 6 ∷ 7 ∷ 8 ∷ 9 ∷ 10 ∷ 11 ∷ 12 ∷ 13 ∷ 14 ∷ 15 ∷ 16 ∷ []
 unfolding bucketNumber distance bitLength leadingZeros numberFrom bigEndian sameBytes datagramRefusals pingSentRefusals onPingSent onPong onHeard onSweep flatMap
 in-turn = refl
@@ -135,7 +135,7 @@ last-tailed = refl
 
 -- nodes 0 and 1 don't answer their pings: one sweep, the 39th call, seats both in line
 abbrev oneSweep : List Call
-oneSweep = eighteen ++ (pingTo 0 100 ∷ pingTo 1 100 ∷ sweep 601 ∷ [])
+oneSweep = eighteen ++ (pingTo 0 100 ∷ pingTo 1 100 ∷ sweep (101 + pingTimeout) ∷ [])
 
 pub swept-together : map (tailed toy (run toy oneSweep .log)) (key 16 ∷ key 17 ∷ []) ≡ 39 ∷ 39 ∷ []
 unfolding bucketNumber distance bitLength leadingZeros numberFrom bigEndian sameBytes datagramRefusals pingSentRefusals onPingSent onPong onHeard onSweep flatMap

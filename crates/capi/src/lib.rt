@@ -19,8 +19,11 @@ ghost use Rattle.table.specs.Init.{initAnswer, initTable};
 ghost use Rattle.counters.specs.Counters.{raised, cleared};
 ghost use Rattle.closest_nodes.specs.Listing.{listed, listAfter};
 ghost use Rattle.capi_codes.specs.Codes.{numberIn, receivedCode, listedCode, writtenCode, seqOf};
-ghost use Rattle.capi_packet.specs.Fields.{readNumber, fieldsAfter, nodeNumbers};
-ghost use Rattle.capi_head.specs.Head.{headNumber, headOn, unlessRefused};
+ghost use Rattle.capi_packet.specs.Fields.{readNumber, fieldsAfter};
+ghost use Rattle.printout_table.specs.Told.{stateOf, printed, printedIn};
+ghost use Rattle.call_key.specs.Head.{headOn};
+ghost use Rattle.call_key.specs.Held.{foundOn};
+ghost use Rattle.capi_table.specs.Told.{toldState, toldSize, nodeOfHead, toldHead, nodeOfFound, toldFound};
 ghost use Rattle.capi_nodes.specs.Packed.{packedList, canPacked};
 ghost use Rattle.enode.specs.Lists.{canBoot, bootText};
 ghost use Rattle.enode_list.specs.List as boots;
@@ -115,34 +118,63 @@ pub extern "C" fn coghammer_closest(list: &mut [Node], table: &[u8], target: &[u
     capi_codes::listed_code(answer)
 }
 
-// ---- the head of a key's bucket
+// ---- what a table tells. Where the answer number isn't 0, nothing is written.
 
-// The first entry of the key's bucket: its key, its address, and as numbers the address length, the UDP port, the TCP port, 1 if a ping is
-// out to it, and since which millisecond; zeros where the bucket has no entry. The answer number: 0, or 1, 5, 7 or 12 and nothing is written.
+// Tells the clock, how many buckets the table has, and how many entries and replacements they hold. The answer number: 0 or 1.
+#[no_mangle]
+pub extern "C" fn coghammer_state(table: &[u8], told: &mut [u64; 4]) -> u8
+    ensures { λ r. ⌜ r ≡ stateOf (now (table .entry)) .number ⌝ }
+    ensures { λ _. ⌜ now (told .exit) ≡ toldState (stateOf (now (table .entry))) (now (told .entry)) ⌝ }
+{
+    let state = discv4::table_state(table);
+    capi_table::tell_state(told, state)
+}
+
+// Writes the printout of the table, and tells its size. The answer number: 0, 1 or 19.
+#[no_mangle]
+pub extern "C" fn coghammer_print(buf: &mut [u8], table: &[u8], size: &mut [u64; 1]) -> u8
+    ensures { λ r. ⌜ r ≡ printed (now (buf .entry)) (now (table .entry)) .number ⌝ }
+    ensures { λ _. ⌜ now (buf .exit) ≡ printedIn (now (buf .entry)) (now (table .entry)) ⌝ }
+    ensures { λ _. ⌜ now (size .exit) ≡ toldSize (printed (now (buf .entry)) (now (table .entry))) (now (size .entry)) ⌝ }
+{
+    let answer = discv4::print_table(buf, table);
+    capi_table::tell_printed(size, answer)
+}
+
+// The first entry of the key's bucket, zeros where it has none, and told are 1 if a ping is out to it, and since which millisecond. The
+// answer number: 0, 1, 5, 7 or 12.
 #[no_mangle]
 pub extern "C" fn coghammer_head(
     table: &[u8],
     key: &[u8],
-    node_key: &mut [u8; 64],
-    address: &mut [u8; 16],
-    numbers: &mut [u64; 5],
+    node: &mut Node,
+    ping: &mut [u64; 2],
 ) -> u8
-    ensures { λ r. ⌜ r ≡ headNumber (now (table .entry)) (now (key .entry)) ⌝ }
-    ensures { λ r. ⌜ now («node_key» .exit) ≡ unlessRefused r (headOn (now (table .entry)) (now (key .entry)) .key) (now («node_key» .entry)) ⌝ }
-    ensures { λ r. ⌜ now (address .exit) ≡ unlessRefused r (headOn (now (table .entry)) (now (key .entry)) .address) (now (address .entry)) ⌝ }
-    ensures { λ r. ⌜ now (numbers .exit) ≡ unlessRefused r (headOn (now (table .entry)) (now (key .entry)) .numbers) (now (numbers .entry)) ⌝ }
+    ensures { λ r. ⌜ r ≡ headOn (now (table .entry)) (now (key .entry)) .number ⌝ }
+    ensures { λ _. ⌜ now (node .exit) ≡ nodeOfHead (headOn (now (table .entry)) (now (key .entry))) (now (node .entry)) ⌝ }
+    ensures { λ _. ⌜ now (ping .exit) ≡ toldHead (headOn (now (table .entry)) (now (key .entry))) (now (ping .entry)) ⌝ }
 {
-    let head = capi_head::head_on(table, key);
-    if head.number != 0 {
-        return head.number;
-    }
-    let held_key = head.key;
-    let held_address = head.address;
-    let held_numbers = head.numbers;
-    *node_key = held_key;
-    *address = held_address;
-    *numbers = held_numbers;
-    numbers::DONE
+    let head = discv4::head(table, key);
+    *node = capi_table::node_of_head(*node, head);
+    capi_table::tell_head(ping, head)
+}
+
+// The key's node, zeros where it isn't held, and told are 1 if it has a seat and 2 if it waits, its logarithmic distance and its place,
+// counted from 1. The answer number: 0, 1, 5, 7 or 12.
+#[no_mangle]
+pub extern "C" fn coghammer_find(
+    table: &[u8],
+    key: &[u8],
+    node: &mut Node,
+    told: &mut [u64; 3],
+) -> u8
+    ensures { λ r. ⌜ r ≡ foundOn (now (table .entry)) (now (key .entry)) .number ⌝ }
+    ensures { λ _. ⌜ now (node .exit) ≡ nodeOfFound (foundOn (now (table .entry)) (now (key .entry))) (now (node .entry)) ⌝ }
+    ensures { λ _. ⌜ now (told .exit) ≡ toldFound (foundOn (now (table .entry)) (now (key .entry))) (now (told .entry)) ⌝ }
+{
+    let found = discv4::find(table, key);
+    *node = capi_table::node_of_found(*node, found);
+    capi_table::tell_found(told, found)
 }
 
 // ---- fields of a datagram
@@ -172,29 +204,18 @@ pub extern "C" fn coghammer_node_count(datagram: &[u8], start: usize, len: usize
     discv4::node_count(datagram, Span { start, len })
 }
 
-// Node `n` of them, counted from 0: its key, its address, and as numbers the address length, the UDP port and the TCP port; zeros where
-// there is none.
+// Node `n` of them, counted from 0; zeros where there is none.
 #[no_mangle]
 pub extern "C" fn coghammer_node_at(
     datagram: &[u8],
     start: usize,
     len: usize,
     n: usize,
-    node_key: &mut [u8; 64],
-    address: &mut [u8; 16],
-    numbers: &mut [u64; 3],
+    node: &mut Node,
 )
-    ensures { λ _. ⌜ now («node_key» .exit) ≡ spans.nodeAt n (span.bytesOf (now (datagram .entry)) (record { start = start; len = len })) .key ⌝ }
-    ensures { λ _. ⌜ now (address .exit) ≡ spans.nodeAt n (span.bytesOf (now (datagram .entry)) (record { start = start; len = len })) .endpoint .address ⌝ }
-    ensures { λ _. ⌜ now (numbers .exit) ≡ nodeNumbers (spans.nodeAt n (span.bytesOf (now (datagram .entry)) (record { start = start; len = len }))) ⌝ }
+    ensures { λ _. ⌜ now (node .exit) ≡ spans.nodeAt n (span.bytesOf (now (datagram .entry)) (record { start = start; len = len })) ⌝ }
 {
-    let node = capi_packet::node_fields(datagram, start, len, n);
-    let held_key = node.key;
-    let held_address = node.address;
-    let held_numbers = node.numbers;
-    *node_key = held_key;
-    *address = held_address;
-    *numbers = held_numbers;
+    *node = capi_packet::node_from(datagram, start, len, n);
 }
 
 // ---- packets written: the code of 0 and the size, or of 19 or 20

@@ -3,7 +3,6 @@
 -- does not have is 0, and so are the start and the length of an unknown `from`.
 use Prim.Native.Nat.{ℕ}
 use mathlib.Core.List.{List, [], _∷_}
-use Rattle.node.specs.declared.Node.{Node}
 use Rattle.packet_model.specs.declared.EnrSeq.{EnrSeq}
 use Rattle.packet_model.specs.declared.EnrSeq.the-variants.{Absent, Present}
 use Rattle.packet.specs.declared.Packet.{Packet}
@@ -18,7 +17,6 @@ use Rattle.packet.specs.declared.FindNode.{FindNode}
 use Rattle.packet.specs.declared.Neighbors.{Neighbors}
 use Rattle.packet.specs.declared.EnrRequest.{EnrRequest}
 use Rattle.packet.specs.declared.EnrResponse.{EnrResponse}
-use Rattle.capi_packet.specs.declared.FlatNode.{FlatNode}
 
 abbrev pub seqPresent : EnrSeq → ℕ
 seqPresent Absent = 0
@@ -86,11 +84,3 @@ readNumber (parsed.Refused n) = n
 abbrev pub fieldsAfter : Parsed → List ℕ → List ℕ
 fieldsAfter (parsed.Packet p) old = flatPacket p
 fieldsAfter (parsed.Refused n) old = old
-
--- a node's numbers: address length, UDP port, TCP port
-abbrev pub nodeNumbers : Node → List ℕ
-nodeNumbers n = n .endpoint .len ∷ n .endpoint .udp ∷ n .endpoint .tcp ∷ []
-
--- a node, with its key and its address beside them
-abbrev pub flatNode : Node → FlatNode
-flatNode n = record { key = n .key; address = n .endpoint .address; numbers = nodeNumbers n }

@@ -3,7 +3,8 @@ ghost use mathlib.Core.Path.{_≡_};
 ghost use Rattle.packet_span.specs.Parts.{bytesOf};
 ghost use Rattle.packet_fields.specs.Spans.{nodeAt};
 ghost use Rattle.packet_datagram.specs.Datagram.{packetIn};
-ghost use Rattle.capi_packet.specs.Fields.{seqPresent, seqValue, fromStart, fromLen, flatPing, flatPong, flatFindNode, flatNeighbors, flatEnrRequest, flatEnrResponse, flatPacket, readNumber, fieldsAfter, flatNode};
+ghost use Rattle.capi_packet.specs.Fields.{seqPresent, seqValue, fromStart, fromLen, flatPing, flatPong, flatFindNode, flatNeighbors, flatEnrRequest, flatEnrResponse, flatPacket, readNumber, fieldsAfter};
+use node::Node;
 use packet::EnrRequest;
 use packet::EnrResponse;
 use packet::FindNode;
@@ -195,29 +196,9 @@ pub fn read_fields(datagram: &[u8], old: [u64; 20]) -> Fields
     }
 }
 
-// A node: its key, its address, and as numbers the address length, the UDP port and the TCP port.
-pub struct FlatNode {
-    pub key: [u8; 64],
-    pub address: [u8; 16],
-    pub numbers: [u64; 3],
-}
-
 // Node `n` of a Neighbors packet, counted from 0, by the start and length of its nodes; zeros where there is none.
-pub fn node_fields(datagram: &[u8], start: usize, len: usize, n: usize) -> FlatNode
-    ensures { λ r. ⌜ r ≡ flatNode (nodeAt n (bytesOf (now (datagram .entry)) (record { start = start; len = len }))) ⌝ }
+pub fn node_from(datagram: &[u8], start: usize, len: usize, n: usize) -> Node
+    ensures { λ r. ⌜ r ≡ nodeAt n (bytesOf (now (datagram .entry)) (record { start = start; len = len })) ⌝ }
 {
-    let node = packet_fields::node_at(datagram, Span { start, len }, n);
-    let key = node.key;
-    let endpoint = node.endpoint;
-    let address = endpoint.address;
-    let numbers = [
-        endpoint.len as u64,
-        endpoint.udp as u64,
-        endpoint.tcp as u64,
-    ];
-    FlatNode {
-        key,
-        address,
-        numbers,
-    }
+    packet_fields::node_at(datagram, Span { start, len }, n)
 }

@@ -9,6 +9,8 @@ use Rattle.call_model.specs.AnyBytes.{numbersOf}
 use Rattle.call_model.specs.Reading.{reading}
 use Rattle.call_model.proofs.AnyBytes.{on-any-bytes}
 use Rattle.closest_nodes.proofs.Chosen.{closest-kept}
+use Rattle.printout_table.proofs.Tells.{told-kept}
+use Rattle.call_key.proofs.Kept.{key-kept}
 use Rattle.discv4.specs.Refusals.{RefusalsKeep}
 use Rattle.discv4.proofs.Demand3.{number-same, bytes-same}
 
@@ -20,4 +22,6 @@ refusals-keep =
       closest-list = closest-kept;
       init = init-kept;
       writers = written-kept;
+      tells = told-kept;
+      of-keys = key-kept;
     }

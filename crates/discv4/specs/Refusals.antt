@@ -10,6 +10,8 @@ use Rattle.written.specs.Written.{WrittenKept}
 use Rattle.call_history.specs.Model.{Call}
 use Rattle.call_model.specs.AnyBytes.{numbersOf}
 use Rattle.closest_nodes.specs.Listing.{ClosestKept}
+use Rattle.printout_table.specs.Told.{ToldKept}
+use Rattle.call_key.specs.Kept.{KeyKept}
 use Rattle.discv4.specs.Library.{answerNumber, tableAfter}
 
 pub record RefusalsKeep : Type 0 where
@@ -22,3 +24,7 @@ pub record RefusalsKeep : Type 0 where
   pub init : InitKept
   -- `write_ping`, .., `write_enr_response` and `join`: each answers `written` and leaves `writtenIn` of its own value
   pub writers : WrittenKept
+  -- `table_state`, and `print_table` with the room that is lent to it
+  pub tells : ToldKept
+  -- `head` and `find`
+  pub of-keys : KeyKept

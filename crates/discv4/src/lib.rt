@@ -16,6 +16,19 @@ pub use call_answer::Outcome;
 pub use call_answer::Received;
 pub use call_answer::Standing;
 
+// ---- what a table tells
+// Lent to read. `table_state` has the numbers of the printout's first row, `print_table` writes the printout into lent bytes. `head` has the first
+// entry of a key's bucket, `find` whether a key's node is held and where; they test only the bucket that the key touches.
+pub use call_key::Found;
+pub use call_key::HeadNode;
+pub use call_key::Held;
+pub use call_key::find;
+pub use call_key::head;
+pub use printout_table::Printed;
+pub use printout_table::TableState;
+pub use printout_table::print_table;
+pub use printout_table::table_state;
+
 // ---- counters
 pub use counters::Counters;
 pub use counters::cleared;

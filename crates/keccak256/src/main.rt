@@ -1,5 +1,5 @@
 // keccak256 [FILE]: prints the Keccak-256 of the file, or of standard input, as 64 hex digits and a line's end.
-// An input of more than 65,535 bytes is refused on standard error.
+// An input of more than 65,535 bytes is refused on standard error; what fails is reported there.
 use libc::STDERR_FILENO;
 use libc::STDIN_FILENO;
 
@@ -33,7 +33,9 @@ fn hash_input(fd: i32, name: &[u8]) {
         Input::Failed => os::fail(name),
         Input::Bytes(n) => {
             if n <= 65535 {
-                keccak_print::print_hash(&buf[0..n]);
+                if !keccak_print::print_hash(&buf[0..n]) {
+                    os::fail(b"standard output");
+                }
             } else {
                 io::write_all(STDERR_FILENO, name);
                 io::write_all(STDERR_FILENO, b": more than 65535 bytes\n");

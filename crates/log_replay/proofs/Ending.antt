@@ -11,8 +11,7 @@ use Rattle.octets.proofs.Laws.{bytes-take, bytes-drop}
 use Rattle.lists.specs.Lists.{empty}
 use Rattle.table_model.specs.Layout.{countOf}
 use Rattle.table_model.specs.Sound.{tableSound}
-use Rattle.printout.specs.Printout.{printout}
-use Rattle.printout.specs.Steps.{room}
+use Rattle.printout.specs.Printout.{printout, printoutRoom}
 use Rattle.printout.proofs.Sizes.{printout-fits}
 use Rattle.log_state.specs.declared.Replay.{Replay}
 use Rattle.log_state.specs.State.{sizeOf, stateOf}
@@ -26,7 +25,7 @@ unfolding sizeOf
 ending-none replay memory z = sym (ap (λ (k : ℕ). cond (empty (take (sizeOf k) memory)) [] (printout (take (sizeOf k) memory))) z)
 
 pub nothing-printed : (replay : Replay) (memory out : Bytes) → replay .count ≡ 0
-    → (0 ≡ length (ending (stateOf replay memory))) × ((out ≡ store out 0 (ending (stateOf replay memory))) × (0 ≤ room))
+    → (0 ≡ length (ending (stateOf replay memory))) × ((out ≡ store out 0 (ending (stateOf replay memory))) × (0 ≤ printoutRoom 16))
 nothing-printed replay memory out z =
     (ap length (ending-none replay memory z), (ap (store out 0) (ending-none replay memory z), omega arith))
 
@@ -45,8 +44,11 @@ module _ (replay : Replay) (memory : Bytes) (big : 46304 ≤ length memory) (few
   pub printed-sound : tableSound table ≡ true
   printed-sound = ap tableSound is-table ∙ good-table replay memory big few some (reached-good r) .0
 
-  pub printed-count : countOf table ≤ 16
-  printed-count = omega (arith, ap countOf is-table, good-table replay memory big few some (reached-good r) .1)
+  few-printed : countOf table ≤ 16
+  few-printed = omega (arith, ap countOf is-table, good-table replay memory big few some (reached-good r) .1)
+
+  pub printed-room : printoutRoom (countOf table) ≤ printoutRoom 16
+  printed-room = omega (arith, few-printed)
 
   ending-some : printout table ≡ ending (stateOf replay memory)
   ending-some =
@@ -56,7 +58,7 @@ module _ (replay : Replay) (memory : Bytes) (big : 46304 ≤ length memory) (few
 
   -- what `put_table` writes
   pub printed : (out : Bytes) {n : ℕ} {out′ : Bytes} → IsBytes memory → (n ≡ length (printout table)) × (out′ ≡ store out 0 (printout table))
-      → (n ≡ length (ending (stateOf replay memory))) × ((out′ ≡ store out 0 (ending (stateOf replay memory))) × (n ≤ room))
+      → (n ≡ length (ending (stateOf replay memory))) × ((out′ ≡ store out 0 (ending (stateOf replay memory))) × (n ≤ printoutRoom 16))
   printed out bs (len, written) =
-      let fits : length (printout table) ≤ room = printout-fits table (bytes-take (z - 0) (drop 0 memory) (bytes-drop 0 memory bs)) printed-sound printed-count in
-      (len ∙ ap length ending-some, (written ∙ ap (store out 0) ending-some, omega (arith, len, fits)))
+      let fits = printout-fits table (bytes-take (z - 0) (drop 0 memory) (bytes-drop 0 memory bs)) printed-sound in
+      (len ∙ ap length ending-some, (written ∙ ap (store out 0) ending-some, omega (arith, len, fits, printed-room)))

@@ -12,7 +12,7 @@ ghost use Rattle.log_answer.specs.AnswerRows.{answerRoom, numberRow};
 ghost use Rattle.log_answer.specs.AnswerLine.{receivedRow};
 ghost use Rattle.log_lines.specs.Lines.{whole};
 ghost use Rattle.log_state.specs.State.{stateOf};
-ghost use Rattle.printout.specs.Steps as held;
+ghost use Rattle.printout.specs.Printout.{printoutRoom};
 ghost use Rattle.log_replay.specs.Replay.{Reached, ending};
 ghost use Rattle.log_replay.specs.Steps.{AnsweredLine};
 use log_answer::put_number;
@@ -164,10 +164,10 @@ pub fn step(memory: &mut [u8], out: &mut [u8], replay: Replay, line: &[u8]) -> S
 
 // What follows the answers: the table's printout, or nothing where there is no table.
 pub fn put_ending(out: &mut [u8], memory: &[u8], replay: Replay) -> usize
-    requires { ⌜ (held.room ≤ length (now out)) × ((46304 ≤ length (now memory)) × ((replay .count ≤ 16) × Reached (stateOf replay (now memory)))) ⌝ }
+    requires { ⌜ (printoutRoom 16 ≤ length (now out)) × ((46304 ≤ length (now memory)) × ((replay .count ≤ 16) × Reached (stateOf replay (now memory)))) ⌝ }
     ensures len { λ r. ⌜ r ≡ length (ending (stateOf replay (now (memory .entry)))) ⌝ }
     ensures written { λ _. ⌜ now (out .exit) ≡ store (now (out .entry)) 0 (ending (stateOf replay (now (memory .entry)))) ⌝ }
-    ensures room { λ r. ⌜ r ≤ held.room ⌝ }
+    ensures room { λ r. ⌜ r ≤ printoutRoom 16 ⌝ }
 {
     if replay.count == 0 {
         return 0;

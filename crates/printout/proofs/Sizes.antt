@@ -25,8 +25,9 @@ use Rattle.table_model.specs.Sound.{tableSound}
 use Rattle.table_model.proofs.Sound.{sound-is-table}
 use Rattle.table_model.proofs.Table.{count-read}
 use Rattle.printout.specs.TableRow.{tableWord, entryTotal, replacementTotal, tableRow}
-use Rattle.printout.specs.Steps.{room}
 use Rattle.printout.specs.Printout.{entryRows, bucketRows, bucketsRows, printout}
+use Rattle.printout.specs.Claims.{PrintoutFits}
+use Rattle.printout.proofs.Slots.{at-most}
 
 entries-bound : (word : Bytes) (distance place : ℕ) (es : List Entry) → length word ≤ 4 → distance < 1000 → place + length es ≤ 100 → All IsEntry es
     → length (entryRows word distance place es) ≤ length es * 137
@@ -80,29 +81,28 @@ module _ (s : Bytes) (bs : IsBytes s) (h : tableSound s ≡ true) where
       let b = t .each j k in
       sound-contents (home (ownOf s) (numberAt (length (bucketsOf s)) j)) (clockOf s) (getD (bucketsOf s) j noContents) (b .rules) (b .values))
 
-  module _ (few : countOf s ≤ 16) where
-    head-bound : length (tableRow s) ≤ 37
-    unfolding tableRow
-    head-bound =
-        let texts : List Bytes = decimal (countOf s) ∷ decimal (clockOf s) ∷ decimal (entryTotal (bucketsOf s)) ∷ decimal (replacementTotal (bucketsOf s)) ∷ [] in
-        let totals = totals-bound (bucketsOf s) all-contents in
-        omega (
-          arith,
-          length-row tableWord texts,
-          length-below 1 (countOf s) (omega arith),
-          length-bound (clockOf s) (sound-is-table s bs h .clock-fits),
-          length-below 2 (entryTotal (bucketsOf s)) (omega (arith, totals .0, count-read s)),
-          length-below 1 (replacementTotal (bucketsOf s)) (omega (arith, totals .1, count-read s)),
-        )
+  head-bound : length (tableRow s) ≤ 41
+  unfolding tableRow
+  head-bound =
+      let texts : List Bytes = decimal (countOf s) ∷ decimal (clockOf s) ∷ decimal (entryTotal (bucketsOf s)) ∷ decimal (replacementTotal (bucketsOf s)) ∷ [] in
+      let totals = totals-bound (bucketsOf s) all-contents in
+      let few = at-most s h in
+      omega (
+        arith,
+        length-row tableWord texts,
+        length-below 2 (countOf s) (omega (arith, few)),
+        length-bound (clockOf s) (sound-is-table s bs h .clock-fits),
+        length-below 3 (entryTotal (bucketsOf s)) (omega (arith, totals .0, count-read s, few)),
+        length-below 3 (replacementTotal (bucketsOf s)) (omega (arith, totals .1, count-read s, few)),
+      )
 
-    -- the printout of a table of up to 16 buckets fits its room
-    pub printout-fits : length (printout s) ≤ room
-    unfolding printout
-    printout-fits =
-        omega (
-          arith,
-          length-append (tableRow s) (bucketsRows (257 - countOf s) (bucketsOf s)),
-          head-bound,
-          count-read s,
-          buckets-bound (257 - countOf s) (bucketsOf s) (omega (arith, count-read s)) all-contents,
-        )
+pub printout-fits : PrintoutFits
+unfolding printout
+printout-fits s bs h =
+    omega (
+      arith,
+      length-append (tableRow s) (bucketsRows (257 - countOf s) (bucketsOf s)),
+      head-bound s bs h,
+      count-read s,
+      buckets-bound (257 - countOf s) (bucketsOf s) (omega (arith, count-read s, at-most s h)) (all-contents s bs h),
+    )

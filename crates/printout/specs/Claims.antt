@@ -1,9 +1,9 @@
 -- What is claimed of the printout of a sound table.
-use Prim.Native.Nat.{ℕ, suc, _-_}
+use Prim.Native.Nat.{ℕ, suc, _-_, _≤_}
 use mathlib.Core.Path.{_≡_}
 use mathlib.Core.Bool.{true}
 use mathlib.Core.List.{List, [], _∷_, _++_}
-use lib.ListN.{replicate}
+use lib.ListN.{length, replicate}
 use Rattle.octets.specs.Octets.{Bytes, IsBytes}
 use Rattle.keccak.specs.Sponge.{keccak256}
 use Rattle.distance.specs.Distance.{logDistance}
@@ -16,7 +16,7 @@ use Rattle.bucket_model.specs.Facts.{Every}
 use Rattle.table_model.specs.Layout.{encodeTable, ownOf, countOf, bucketsOf}
 use Rattle.table_model.specs.Sound.{tableSound}
 use Rattle.table_model.specs.Facts.{SoundTable}
-use Rattle.printout.specs.Printout.{printout}
+use Rattle.printout.specs.Printout.{printout, printoutRoom}
 
 -- ---- the distance printed
 
@@ -34,6 +34,12 @@ Rising P n (b ∷ bs) = P n b × Rising P (suc n) bs
 abbrev pub PrintedDistance : Type 0
 PrintedDistance =
     (s : Bytes) → IsBytes s → tableSound s ≡ true → Rising (λ n b. Every (AtDistance (ownOf s) n) b) (257 - countOf s) (bucketsOf s)
+
+-- ---- its size
+
+-- the printout of a sound table fits the room for its number of buckets
+abbrev pub PrintoutFits : Type 0
+PrintoutFits = (s : Bytes) → IsBytes s → tableSound s ≡ true → length (printout s) ≤ printoutRoom (countOf s)
 
 -- ---- document 01's example, with the logarithmic distance of C-14
 

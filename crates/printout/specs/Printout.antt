@@ -1,6 +1,6 @@
 -- The printout of a table. Document 01, "Log and printout": "buckets rising, in each the seats from the head, then its `wait` lines, places
 -- counted from 1". "Fields: buckets, clock, seats, waiting; then .." those of an entry's row.
-use Prim.Native.Nat.{ℕ, suc, _-_}
+use Prim.Native.Nat.{ℕ, suc, _+_, _-_, _*_}
 use mathlib.Core.List.{List, [], _∷_, _++_}
 use Rattle.octets.specs.Octets.{Bytes}
 use Rattle.printout_rows.specs.Rows.{entryWord, replacementWord}
@@ -31,3 +31,8 @@ bucketsRows distance (b ∷ bs) = bucketRows distance b ++ bucketsRows (suc dist
 -- the printout of the table with the bytes s
 unfoldable pub printout : Bytes → Bytes
 printout s = tableRow s ++ bucketsRows (257 - countOf s) (bucketsOf s)
+
+-- room for the printout of a table of so many buckets, whatever it holds: its own row takes at most 41 bytes, and the row of each of 20 entries
+-- of a bucket at most 137
+abbrev pub printoutRoom : ℕ → ℕ
+printoutRoom buckets = 41 + buckets * 20 * 137

@@ -1,4 +1,4 @@
--- What writing a printout asks of a table's bytes, and how long it gets.
+-- What writing a printout asks of a table's bytes.
 use Prim.Native.Nat.{ℕ, _+_, _*_, _≤_}
 use lib.ListN.{length, getD}
 use Rattle.octets.specs.Octets.{Bytes}
@@ -19,7 +19,3 @@ pub record BucketIn (s : Bytes) (slot : ℕ) : Type 0 where
   pub entries : EntriesIn s (offsetOf slot + 2) (getD s (offsetOf slot) 0)
   pub few : getD s (offsetOf slot + 1) 0 ≤ 4
   pub replacements : EntriesIn s (offsetOf slot + 2290) (getD s (offsetOf slot + 1) 0)
-
--- the row of the table takes at most 37 bytes, the row of each of 16 × 20 entries at most 137
-abbrev pub room : ℕ
-room = 37 + 16 * 20 * 137

@@ -7,9 +7,9 @@ ghost use Rattle.octets.specs.Octets.{store};
 ghost use Rattle.table_model.specs.Layout.{bucketsOf, countOf, bucketAt};
 ghost use Rattle.table_model.specs.Sound.{tableSound};
 ghost use Rattle.printout.specs.TableRow.{entryTotal, replacementTotal, tableRow};
-ghost use Rattle.printout.specs.Steps.{room, EntriesIn, BucketIn};
+ghost use Rattle.printout.specs.Steps.{EntriesIn, BucketIn};
 ghost use Rattle.bucket_model.specs.Contents.{entriesAt};
-ghost use Rattle.printout.specs.Printout.{entryRows, bucketRows, bucketsRows, printout};
+ghost use Rattle.printout.specs.Printout.{entryRows, bucketRows, bucketsRows, printout, printoutRoom};
 use bucket::Bucket;
 use entry::Entry;
 use printout_entry::put_entry;
@@ -17,23 +17,21 @@ use printout_rows::decimal_field;
 use printout_rows::put_end;
 use printout_rows::put_word;
 
-// The bytes that the printout of a table of up to 16 buckets can take: a row of 37 bytes, and 16 × 20 rows of 137.
-pub const ROOM: usize = 37 + 16 * 20 * 137;
-
-// The bytes that `put_table` asks for.
-pub fn asked_room() -> usize
-    ensures { λ r. ⌜ r ≡ room ⌝ }
+// The bytes that the printout of a table of so many buckets can take: a row of 41 bytes, and 20 rows of 137 for each bucket.
+pub fn room_for(buckets: usize) -> usize
+    requires { ⌜ buckets ≤ 256 ⌝ }
+    ensures { λ r. ⌜ r ≡ printoutRoom buckets ⌝ }
 {
-    ROOM
+    41 + buckets * 20 * 137
 }
 
 // How many entries and how many replacements a table holds.
-struct Totals {
-    entries: usize,
-    replacements: usize,
+pub struct Totals {
+    pub entries: usize,
+    pub replacements: usize,
 }
 
-fn held_in(table: &[u8]) -> Totals
+pub fn held_in(table: &[u8]) -> Totals
     requires { ⌜ tableSound (now table) ≡ true ⌝ }
     ensures { λ r. ⌜ r ≡ record { entries = entryTotal (bucketsOf (now (table .entry))); replacements = replacementTotal (bucketsOf (now (table .entry))) } ⌝ }
 {
@@ -134,9 +132,9 @@ fn put_buckets(out: &mut [u8], at: usize, table: &[u8]) -> usize
     next
 }
 
-// Writes the printout of a sound table of up to 16 buckets, and returns its length.
+// Writes the printout of a sound table, and returns its length.
 pub fn put_table(out: &mut [u8], table: &[u8]) -> usize
-    requires { ⌜ (tableSound (now table) ≡ true) × ((countOf (now table) ≤ 16) × (room ≤ length (now out))) ⌝ }
+    requires { ⌜ (tableSound (now table) ≡ true) × (printoutRoom (countOf (now table)) ≤ length (now out)) ⌝ }
     ensures { λ r. ⌜ r ≡ length (printout (now (table .entry))) ⌝ }
     ensures { λ _. ⌜ now (out .exit) ≡ store (now (out .entry)) 0 (printout (now (table .entry))) ⌝ }
 {

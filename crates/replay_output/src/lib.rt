@@ -4,20 +4,35 @@ ghost use lib.ListN.{length};
 ghost use Rattle.log_answer.specs.AnswerRows.{answerRoom};
 use libc::STDOUT_FILENO;
 
-pub fn write_out(bytes: &[u8]) {
-    if !io::write_all(STDOUT_FILENO, bytes) {
-        os::fail(b"write");
-    }
+// Where the next answer goes, and whether a write before it failed.
+pub struct Room {
+    pub at: usize,
+    pub lost: bool,
 }
 
-// Where the next answer goes: the output is written out where it might find no room.
-pub fn make_room(out: &[u8], used: usize) -> usize
+// Whether all was written. A failure is reported.
+pub fn write_out(bytes: &[u8]) -> bool {
+    if io::write_all(STDOUT_FILENO, bytes) {
+        return true;
+    }
+    os::fail(b"standard output");
+    false
+}
+
+// Room for the next answer: the output is written out where it might find none.
+pub fn make_room(out: &[u8], used: usize) -> Room
     requires { ⌜ (65536 ≤ length (now out)) × (used ≤ length (now out)) ⌝ }
-    ensures { λ r. ⌜ r + answerRoom ≤ length (now (out .entry)) ⌝ }
+    ensures { λ r. ⌜ r .at + answerRoom ≤ length (now (out .entry)) ⌝ }
 {
     if used <= 65472 {
-        return used;
+        return Room {
+            at: used,
+            lost: false,
+        };
     }
-    write_out(&out[0..used]);
-    0
+    let written = write_out(&out[0..used]);
+    Room {
+        at: 0,
+        lost: !written,
+    }
 }

@@ -21,9 +21,9 @@ impl End {
     /// 0, 22 or 19.
     pub fn number(self) -> Number {
         match self {
-            End::Complete => 0,
-            End::Unfit { .. } => 22,
-            End::Full { .. } => 19,
+            End::Complete => Number::DONE,
+            End::Unfit { .. } => Number::NOT_ENODE,
+            End::Full { .. } => Number::SHORT_ROOM,
         }
     }
 }

@@ -11,23 +11,26 @@
 
 #![deny(unsafe_code)]
 
+use std::net::{IpAddr, SocketAddr};
+
 mod boot;
+mod number;
 mod packet;
 #[allow(unsafe_code)]
 mod sys;
 pub mod write;
 
 pub use boot::{enode_text, read_enodes, write_enodes, End, ENODE_LINE};
+pub use number::Number;
 pub use packet::{Nodes, Packet};
 
-/// An answer number of document 01 or of a request, not 0 where it is an error.
-pub type Number = u8;
-
 /// The box clock: milliseconds that never go back.
+#[repr(transparent)]
 #[derive(Clone, Copy, Debug, PartialEq, Eq, PartialOrd, Ord)]
 pub struct MonotonicMillis(pub u64);
 
 /// The packets' clock: Unix seconds, which may jump either way.
+#[repr(transparent)]
 #[derive(Clone, Copy, Debug, PartialEq, Eq, PartialOrd, Ord)]
 pub struct UnixSeconds(pub u64);
 
@@ -57,17 +60,38 @@ pub struct Endpoint {
 impl Endpoint {
     /// None where the address isn't of 4 or 16 bytes.
     pub fn new(address: &[u8], udp: u16, tcp: u16) -> Option<Endpoint> {
-        if !matches!(address.len(), 4 | 16) {
-            return None;
-        }
-        let mut endpoint = Endpoint { len: address.len() as u8, address: [0; 16], udp, tcp };
-        endpoint.address[..address.len()].copy_from_slice(address);
-        Some(endpoint)
+        matches!(address.len(), 4 | 16).then(|| Endpoint::of(address, udp, tcp))
     }
 
     /// The bytes of the IP address.
     pub fn ip(&self) -> &[u8] {
         &self.address[..usize::from(self.len).min(16)]
+    }
+
+    /// The address and the UDP port, where a host sends to; None where the address isn't of 4 or 16 bytes.
+    pub fn socket_addr(&self) -> Option<SocketAddr> {
+        let ip = match *self.ip() {
+            [a, b, c, d] => IpAddr::from([a, b, c, d]),
+            _ if self.len == 16 => IpAddr::from(self.address),
+            _ => return None,
+        };
+        Some(SocketAddr::new(ip, self.udp))
+    }
+
+    /// An endpoint at a socket's address, with this TCP port. An IPv4-mapped address, as a socket for both
+    /// families gives it, becomes its 4 bytes: the library compares addresses as bytes.
+    pub fn at(address: SocketAddr, tcp: u16) -> Endpoint {
+        match address.ip().to_canonical() {
+            IpAddr::V4(ip) => Endpoint::of(&ip.octets(), address.port(), tcp),
+            IpAddr::V6(ip) => Endpoint::of(&ip.octets(), address.port(), tcp),
+        }
+    }
+
+    /// Of 4 or 16 bytes.
+    fn of(address: &[u8], udp: u16, tcp: u16) -> Endpoint {
+        let mut endpoint = Endpoint { len: address.len() as u8, address: [0; 16], udp, tcp };
+        endpoint.address[..address.len()].copy_from_slice(address);
+        endpoint
     }
 }
 
@@ -83,12 +107,6 @@ impl Node {
     /// A record of zeros, to make a list of.
     pub const EMPTY: Node =
         Node { key: [0; 64], endpoint: Endpoint { len: 0, address: [0; 16], udp: 0, tcp: 0 } };
-
-    fn from_parts(key: [u8; 64], address: [u8; 16], numbers: &[u64]) -> Node {
-        let endpoint =
-            Endpoint { len: numbers[0] as u8, address, udp: numbers[1] as u16, tcp: numbers[2] as u16 };
-        Node { key, endpoint }
-    }
 }
 
 /// What an accepted datagram asks of the host, or did to the table.
@@ -123,6 +141,36 @@ pub enum Standing {
 pub struct Head {
     pub node: Node,
     pub ping_out: Option<MonotonicMillis>,
+}
+
+/// The numbers of a printout's first row.
+#[derive(Clone, Copy, Debug, PartialEq, Eq)]
+pub struct State {
+    pub clock: MonotonicMillis,
+    pub buckets: usize,
+    /// The seats that are taken.
+    pub entries: usize,
+    /// The nodes that wait.
+    pub replacements: usize,
+}
+
+/// A node of the table, and where it is held.
+#[derive(Clone, Copy, Debug, PartialEq, Eq)]
+pub struct Held {
+    pub node: Node,
+    pub rank: Rank,
+    /// The logarithmic distance, 1 to 256.
+    pub distance: usize,
+    /// The place among its bucket's entries or replacements, counted from 1.
+    pub place: usize,
+}
+
+#[derive(Clone, Copy, Debug, PartialEq, Eq)]
+pub enum Rank {
+    /// It has a seat.
+    Entry,
+    /// It waits for one.
+    Replacement,
 }
 
 /// A table in bytes of its own.
@@ -176,7 +224,7 @@ impl Table {
         signer: &[u8],
         datagram: &[u8],
     ) -> Result<Accepted, Number> {
-        let code = sys::datagram(counters, &mut self.bytes, clock.0, unix.0, address, port, signer, datagram);
+        let code = sys::datagram(counters, &mut self.bytes, clock, unix, address, port, signer, datagram);
         let value = valued(code)?;
         let (kind, outcome) = (value & 255, value >> 8);
         Ok(match kind {
@@ -193,6 +241,22 @@ impl Table {
         })
     }
 
+    /// [`Table::datagram`] of a datagram that a socket received from this address; `signer` is None where the
+    /// signature recovers no key.
+    pub fn receive(
+        &mut self,
+        counters: &mut Counters,
+        clock: MonotonicMillis,
+        unix: UnixSeconds,
+        from: SocketAddr,
+        signer: Option<&[u8; 64]>,
+        datagram: &[u8],
+    ) -> Result<Accepted, Number> {
+        let from = Endpoint::at(from, 0);
+        let signer = signer.map_or(&[][..], |key| key);
+        self.datagram(counters, clock, unix, from.ip(), from.udp, signer, datagram)
+    }
+
     /// A ping whose datagram has this hash went out to a node.
     #[allow(clippy::too_many_arguments)]
     pub fn ping_sent(
@@ -205,12 +269,12 @@ impl Table {
         tcp: u16,
         hash: &[u8],
     ) -> Result<(), Number> {
-        done(sys::ping_sent(counters, &mut self.bytes, clock.0, key, address, udp, tcp, hash))
+        done(sys::ping_sent(counters, &mut self.bytes, clock, key, address, udp, tcp, hash))
     }
 
     /// Removes nodes that didn't answer a ping in time, and fills what is free from those that wait.
     pub fn sweep(&mut self, counters: &mut Counters, clock: MonotonicMillis) -> Result<(), Number> {
-        done(sys::sweep(counters, &mut self.bytes, clock.0))
+        done(sys::sweep(counters, &mut self.bytes, clock))
     }
 
     /// The nodes nearest to the target, nearest first, written to the front of a list of at least sixteen
@@ -229,13 +293,55 @@ impl Table {
 
     /// The first entry of the bucket that a key falls into.
     pub fn head(&self, key: &[u8]) -> Result<Option<Head>, Number> {
-        let (mut node_key, mut address, mut numbers) = ([0; 64], [0; 16], [0; 5]);
-        done(sys::head(&self.bytes, key, &mut node_key, &mut address, &mut numbers))?;
-        if numbers[0] == 0 {
-            return Ok(None);
-        }
-        let ping_out = (numbers[3] == 1).then_some(MonotonicMillis(numbers[4]));
-        Ok(Some(Head { node: Node::from_parts(node_key, address, &numbers), ping_out }))
+        let (mut node, mut ping) = (Node::EMPTY, [0; 2]);
+        done(sys::head(&self.bytes, key, &mut node, &mut ping))?;
+        let ping_out = (ping[0] == 1).then_some(MonotonicMillis(ping[1]));
+        Ok((node.endpoint.len != 0).then_some(Head { node, ping_out }))
+    }
+
+    /// The node with this key, and where it is held.
+    pub fn find(&self, key: &[u8]) -> Result<Option<Held>, Number> {
+        let (mut node, mut told) = (Node::EMPTY, [0; 3]);
+        done(sys::find(&self.bytes, key, &mut node, &mut told))?;
+        let rank = match told[0] {
+            0 => return Ok(None),
+            1 => Rank::Entry,
+            _ => Rank::Replacement,
+        };
+        Ok(Some(Held { node, rank, distance: told[1] as usize, place: told[2] as usize }))
+    }
+
+    /// The clock, and how much the table holds; 1 where it isn't sound.
+    pub fn state(&self) -> Result<State, Number> {
+        let mut told = [0; 4];
+        done(sys::state(&self.bytes, &mut told))?;
+        let [clock, buckets, entries, replacements] = told;
+        Ok(State {
+            clock: MonotonicMillis(clock),
+            buckets: buckets as usize,
+            entries: entries as usize,
+            replacements: replacements as usize,
+        })
+    }
+
+    /// Room for the printout of a table of so many buckets, whatever it holds.
+    pub const fn printout_size(buckets: usize) -> usize {
+        41 + buckets * 20 * 137
+    }
+
+    /// Writes the printout to the front of a buffer of at least [`Table::printout_size`] bytes (else 19); how
+    /// many it takes.
+    pub fn printout_in(&self, buf: &mut [u8]) -> Result<usize, Number> {
+        let mut size = [0];
+        done(sys::print(buf, &self.bytes, &mut size)).map(|()| size[0] as usize)
+    }
+
+    /// The printout; 1 where the table isn't sound.
+    pub fn printout(&self) -> Result<String, Number> {
+        let mut text = vec![0; Table::printout_size(self.state()?.buckets)];
+        let size = self.printout_in(&mut text)?;
+        text.truncate(size);
+        Ok(text.into_iter().map(char::from).collect())
     }
 }
 
@@ -250,7 +356,7 @@ fn done(number: u8) -> Result<(), Number> {
     if number == 0 {
         Ok(())
     } else {
-        Err(number)
+        Err(Number(number))
     }
 }
 

@@ -56,9 +56,9 @@ impl Nodes<'_> {
     /// Node `n`, counted from 0.
     pub fn get(&self, n: usize) -> Option<Node> {
         (n < self.count()).then(|| {
-            let (mut key, mut address, mut numbers) = ([0; 64], [0; 16], [0; 3]);
-            sys::node_at(self.datagram, self.start, self.len, n, &mut key, &mut address, &mut numbers);
-            Node::from_parts(key, address, &numbers)
+            let mut node = Node::EMPTY;
+            sys::node_at(self.datagram, self.start, self.len, n, &mut node);
+            node
         })
     }
 

@@ -4,8 +4,9 @@
 //! read or write is lent for the length of the call; a `&mut` is distinct from every other argument by
 //! Rust's own rule; no function keeps a pointer; and each is proved to end, not to panic, and to read and
 //! write inside what it is lent, for any contents. An empty slice passes as a pointer that isn't null.
+//! The clocks pass as the numbers that they are.
 
-use crate::{Counters, Node};
+use crate::{Counters, MonotonicMillis, Node, UnixSeconds};
 
 extern "C" {
     fn coghammer_init(table: *mut u8, table_len: usize, key: *const u8, key_len: usize, buckets: usize)
@@ -14,8 +15,8 @@ extern "C" {
         counters: *mut Counters,
         table: *mut u8,
         table_len: usize,
-        clock: u64,
-        unix: u64,
+        clock: MonotonicMillis,
+        unix: UnixSeconds,
         address: *const u8,
         address_len: usize,
         port: u16,
@@ -28,7 +29,7 @@ extern "C" {
         counters: *mut Counters,
         table: *mut u8,
         table_len: usize,
-        clock: u64,
+        clock: MonotonicMillis,
         key: *const u8,
         key_len: usize,
         address: *const u8,
@@ -38,7 +39,12 @@ extern "C" {
         hash: *const u8,
         hash_len: usize,
     ) -> u8;
-    fn coghammer_sweep(counters: *mut Counters, table: *mut u8, table_len: usize, clock: u64) -> u8;
+    fn coghammer_sweep(
+        counters: *mut Counters,
+        table: *mut u8,
+        table_len: usize,
+        clock: MonotonicMillis,
+    ) -> u8;
     fn coghammer_closest(
         list: *mut Node,
         list_len: usize,
@@ -48,14 +54,29 @@ extern "C" {
         target_len: usize,
     ) -> u32;
     fn coghammer_clear(counters: *mut Counters);
+    fn coghammer_state(table: *const u8, table_len: usize, told: *mut [u64; 4]) -> u8;
+    fn coghammer_print(
+        buf: *mut u8,
+        buf_len: usize,
+        table: *const u8,
+        table_len: usize,
+        size: *mut [u64; 1],
+    ) -> u8;
     fn coghammer_head(
         table: *const u8,
         table_len: usize,
         key: *const u8,
         key_len: usize,
-        node_key: *mut [u8; 64],
-        address: *mut [u8; 16],
-        numbers: *mut [u64; 5],
+        node: *mut Node,
+        ping: *mut [u64; 2],
+    ) -> u8;
+    fn coghammer_find(
+        table: *const u8,
+        table_len: usize,
+        key: *const u8,
+        key_len: usize,
+        node: *mut Node,
+        told: *mut [u64; 3],
     ) -> u8;
     fn coghammer_packet(datagram: *const u8, datagram_len: usize, fields: *mut [u64; 20]) -> u8;
     fn coghammer_node_count(datagram: *const u8, datagram_len: usize, start: usize, len: usize) -> usize;
@@ -65,9 +86,7 @@ extern "C" {
         start: usize,
         len: usize,
         n: usize,
-        node_key: *mut [u8; 64],
-        address: *mut [u8; 16],
-        numbers: *mut [u64; 3],
+        node: *mut Node,
     );
     fn coghammer_write_ping(
         buf: *mut u8,
@@ -157,8 +176,8 @@ pub fn init(table: &mut [u8], key: &[u8], buckets: usize) -> u8 {
 pub fn datagram(
     counters: &mut Counters,
     table: &mut [u8],
-    clock: u64,
-    unix: u64,
+    clock: MonotonicMillis,
+    unix: UnixSeconds,
     address: &[u8],
     port: u16,
     signer: &[u8],
@@ -187,7 +206,7 @@ pub fn datagram(
 pub fn ping_sent(
     counters: &mut Counters,
     table: &mut [u8],
-    clock: u64,
+    clock: MonotonicMillis,
     key: &[u8],
     address: &[u8],
     udp: u16,
@@ -213,7 +232,7 @@ pub fn ping_sent(
     }
 }
 
-pub fn sweep(counters: &mut Counters, table: &mut [u8], clock: u64) -> u8 {
+pub fn sweep(counters: &mut Counters, table: &mut [u8], clock: MonotonicMillis) -> u8 {
     // SAFETY: counters and table are lent for writing.
     unsafe { coghammer_sweep(counters, table.as_mut_ptr(), table.len(), clock) }
 }
@@ -237,17 +256,27 @@ pub fn clear(counters: &mut Counters) {
     unsafe { coghammer_clear(counters) }
 }
 
-pub fn head(
-    table: &[u8],
-    key: &[u8],
-    node_key: &mut [u8; 64],
-    address: &mut [u8; 16],
-    numbers: &mut [u64; 5],
-) -> u8 {
-    // SAFETY: two slices that are read, three arrays of the lengths declared.
-    unsafe {
-        coghammer_head(table.as_ptr(), table.len(), key.as_ptr(), key.len(), node_key, address, numbers)
-    }
+// ---- what a table tells
+
+pub fn state(table: &[u8], told: &mut [u64; 4]) -> u8 {
+    // SAFETY: a slice that is read, an array of the length declared.
+    unsafe { coghammer_state(table.as_ptr(), table.len(), told) }
+}
+
+pub fn print(buf: &mut [u8], table: &[u8], size: &mut [u64; 1]) -> u8 {
+    // SAFETY: the first slice is lent for writing, the second is read; an array of the length declared.
+    unsafe { coghammer_print(buf.as_mut_ptr(), buf.len(), table.as_ptr(), table.len(), size) }
+}
+
+pub fn head(table: &[u8], key: &[u8], node: &mut Node, ping: &mut [u64; 2]) -> u8 {
+    // SAFETY: two slices that are read; `Node` has C's layout and is lent for writing; an array of the
+    // length declared.
+    unsafe { coghammer_head(table.as_ptr(), table.len(), key.as_ptr(), key.len(), node, ping) }
+}
+
+pub fn find(table: &[u8], key: &[u8], node: &mut Node, told: &mut [u64; 3]) -> u8 {
+    // SAFETY: as for `head`.
+    unsafe { coghammer_find(table.as_ptr(), table.len(), key.as_ptr(), key.len(), node, told) }
 }
 
 // ---- packets read
@@ -262,17 +291,9 @@ pub fn node_count(datagram: &[u8], start: usize, len: usize) -> usize {
     unsafe { coghammer_node_count(datagram.as_ptr(), datagram.len(), start, len) }
 }
 
-pub fn node_at(
-    datagram: &[u8],
-    start: usize,
-    len: usize,
-    n: usize,
-    node_key: &mut [u8; 64],
-    address: &mut [u8; 16],
-    numbers: &mut [u64; 3],
-) {
-    // SAFETY: as for `node_count`; three arrays of the lengths declared.
-    unsafe { coghammer_node_at(datagram.as_ptr(), datagram.len(), start, len, n, node_key, address, numbers) }
+pub fn node_at(datagram: &[u8], start: usize, len: usize, n: usize, node: &mut Node) {
+    // SAFETY: as for `node_count`; `Node` has C's layout and is lent for writing.
+    unsafe { coghammer_node_at(datagram.as_ptr(), datagram.len(), start, len, n, node) }
 }
 
 // ---- packets written

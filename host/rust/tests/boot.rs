@@ -3,8 +3,8 @@
 
 mod common;
 
-use coghammer::{enode_text, read_enodes, write_enodes, End, Endpoint, Node, ENODE_LINE};
-use common::counted;
+use coghammer::{enode_text, read_enodes, write_enodes, End, Endpoint, Node, Number, ENODE_LINE};
+use common::{counted, told};
 use reference::enode;
 use reference::generator::enodes;
 use reference::generator::random::Random;
@@ -50,15 +50,18 @@ fn by_hand() {
         assert_eq!(read_enodes(&mut list[..room], text.as_bytes()), (count, end), "{text:?} in {room}");
         assert!(list.iter().enumerate().all(|(i, held)| *held == if i < count { one } else { two }));
     }
-    assert_eq!([End::Complete, End::Unfit { line: 7 }, End::Full { line: 7 }].map(End::number), [0, 22, 19]);
+    assert_eq!(
+        [End::Complete, End::Unfit { line: 7 }, End::Full { line: 7 }].map(End::number),
+        [0, 22, 19].map(Number)
+    );
 
     // 20 goes before 19, and nothing is written then
     let six = node(&[7; 16], 1, 2);
     let mut buf = [0x5a; 2 * ENODE_LINE];
-    assert_eq!(write_enodes(&mut buf, &[one, six]), Err(20));
-    assert_eq!(write_enodes(&mut [], &[one, six]), Err(20));
-    assert_eq!(write_enodes(&mut buf[..text.len() - 1], &[one, two]), Err(19));
-    assert_eq!(write_enodes(&mut buf, &[Node::EMPTY]), Err(20));
+    assert_eq!(write_enodes(&mut buf, &[one, six]), Err(Number(20)));
+    assert_eq!(write_enodes(&mut [], &[one, six]), Err(Number(20)));
+    assert_eq!(write_enodes(&mut buf[..text.len() - 1], &[one, two]), Err(Number(19)));
+    assert_eq!(write_enodes(&mut buf, &[Node::EMPTY]), Err(Number(20)));
     assert_eq!(buf, [0x5a; 2 * ENODE_LINE]);
     assert_eq!(write_enodes(&mut buf, &[one, two]), Ok(text.len()));
     assert_eq!(buf[..text.len()], *text.as_bytes());
@@ -109,7 +112,7 @@ fn read() {
         let after: Vec<Node> =
             nodes.iter().map(common::node).chain(before[count..].iter().copied()).collect();
         assert_eq!(list, after, "{shown:?} in {room}");
-        ends[usize::from(how.number())] += 1;
+        ends[usize::from(how.number().0)] += 1;
         if how == End::Complete {
             assert_eq!(enode_text(&list[..count]).unwrap(), enode::text(&nodes).unwrap().as_bytes());
         }
@@ -157,7 +160,7 @@ fn written() {
         };
         let mut ours = random.bytes(room);
         let mut wanted = ours.clone();
-        let answer = write_enodes(&mut ours, &nodes);
+        let answer = told(write_enodes(&mut ours, &nodes));
         assert_eq!(answer, enode::write(&others, &mut wanted), "{nodes:?} in {room}");
         assert_eq!(ours, wanted, "{nodes:?} in {room}");
         numbers[usize::from(reference::table::number(&answer))] += 1;

@@ -1,8 +1,10 @@
 //! Every function once on good and on bad input, with figures by hand.
 
+use std::net::SocketAddr;
+
 use coghammer::{
-    keccak256, write, Accepted, Counters, Endpoint, MonotonicMillis, Node, Packet, Standing, Table,
-    UnixSeconds,
+    keccak256, write, Accepted, Counters, Endpoint, Held, MonotonicMillis, Node, Number, Packet, Rank,
+    Standing, State, Table, UnixSeconds,
 };
 
 const OWN: [u8; 64] = [1; 64];
@@ -51,7 +53,43 @@ fn fresh_tables() {
         (&[], 0, 1),
         (&[], 1, 5),
     ] {
-        assert_eq!(Table::new(key, buckets), Err(number));
+        assert_eq!(Table::new(key, buckets), Err(Number(number)));
+    }
+}
+
+/// A number in words, as an error of any host.
+#[test]
+fn numbers_in_words() -> Result<(), Box<dyn std::error::Error>> {
+    assert_eq!(Number(15).to_string(), "15: the pong came too late");
+    assert_eq!(Number(99).text(), "no answer number");
+    let fails = || -> Result<(), Box<dyn std::error::Error>> { Ok(Table::new(&OWN, 0).map(|_| ())?) };
+    assert!(fails().unwrap_err().to_string().starts_with("1: "));
+    Ok(())
+}
+
+/// A socket's addresses; an IPv4-mapped one is its 4 bytes.
+#[test]
+fn socket_addresses() {
+    for (text, len) in [("192.0.2.7:30303", 4), ("[2001:db8::d]:30303", 16)] {
+        let address: SocketAddr = text.parse().unwrap();
+        let endpoint = Endpoint::at(address, 9);
+        assert_eq!((endpoint.ip().len(), endpoint.udp, endpoint.tcp), (len, 30303, 9));
+        assert_eq!(endpoint.socket_addr(), Some(address));
+    }
+    let mapped: SocketAddr = "[::ffff:192.0.2.7]:30303".parse().unwrap();
+    assert_eq!(Endpoint::at(mapped, 0).ip(), ADDRESS);
+    assert_eq!(Endpoint::default().socket_addr(), None);
+    // a datagram from a socket's address is the datagram from its bytes, an absent signer the empty key
+    let address: SocketAddr = "192.0.2.7:30303".parse().unwrap();
+    for signer in [Some(&PEER), None] {
+        let (mut one, mut two) = (Table::new(&OWN, 16).unwrap(), Table::new(&OWN, 16).unwrap());
+        let (mut counters, mut others) = (Counters::default(), Counters::default());
+        let packet = ping(UNIX.0);
+        let from_socket = one.receive(&mut counters, MonotonicMillis(5), UNIX, address, signer, &packet);
+        let key = signer.map_or(&[][..], |key| key);
+        let from_bytes = two.datagram(&mut others, MonotonicMillis(5), UNIX, &ADDRESS, 30303, key, &packet);
+        assert_eq!((from_socket, &one, &counters), (from_bytes, &two, &others));
+        assert_eq!(from_socket.is_ok(), signer.is_some());
     }
 }
 
@@ -69,30 +107,39 @@ fn one_peer() {
         table.datagram(counters, at(now), UNIX, &ADDRESS, 30303, &PEER, datagram)
     };
     assert_eq!(rx(&mut table, &mut counters, 50, &ping(UNIX.0)), Ok(Accepted::Ping { ping_due: true }));
-    assert_eq!(rx(&mut table, &mut counters, 50, &ping(UNIX.0 - 1)), Err(11));
+    assert_eq!(rx(&mut table, &mut counters, 50, &ping(UNIX.0 - 1)), Err(Number(11)));
     assert_eq!(sent(&mut table, &mut counters, 100), Ok(()));
-    assert_eq!(sent(&mut table, &mut counters, 100), Err(17));
+    assert_eq!(sent(&mut table, &mut counters, 100), Err(Number(17)));
     assert_eq!(table.head(&PEER), Ok(None));
-    assert_eq!(rx(&mut table, &mut counters, 99, &pong(&hash)), Err(2));
-    assert_eq!(rx(&mut table, &mut counters, 601, &pong(&hash)), Err(15));
-    assert_eq!(rx(&mut table, &mut counters, 600, &pong(&[5; 32])), Err(14));
+    let node = Node { key: PEER, endpoint: Endpoint::new(&ADDRESS, 30303, 30304).unwrap() };
+    let waiting = table.find(&PEER).unwrap().unwrap();
+    assert_eq!((waiting.node, waiting.rank, waiting.place), (node, Rank::Replacement, 1));
+    assert_eq!(rx(&mut table, &mut counters, 99, &pong(&hash)), Err(Number(2)));
+    assert_eq!(rx(&mut table, &mut counters, 601, &pong(&hash)), Err(Number(15)));
+    assert_eq!(rx(&mut table, &mut counters, 600, &pong(&[5; 32])), Err(Number(14)));
     assert_eq!(rx(&mut table, &mut counters, 600, &pong(&hash)), Ok(Accepted::Pong(Standing::TookEntry)));
     assert_eq!(rx(&mut table, &mut counters, 600, &ping(UNIX.0)), Ok(Accepted::Ping { ping_due: false }));
 
-    let node = Node { key: PEER, endpoint: Endpoint::new(&ADDRESS, 30303, 30304).unwrap() };
     assert_eq!(node.endpoint.ip(), ADDRESS);
     let head = table.head(&PEER).unwrap().unwrap();
     assert_eq!((head.node, head.ping_out), (node, None));
+    assert_eq!(table.find(&PEER), Ok(Some(Held { rank: Rank::Entry, ..waiting })));
+    assert_eq!(table.find(&[5; 64]), Ok(None));
+    let state = State { clock: at(600), buckets: 16, entries: 1, replacements: 0 };
+    assert_eq!(table.state(), Ok(state));
+    let row =
+        format!("seat\t{}\t1\t0202020202020202\tc0000207\t30303\t30304\t600\t600\tquiet", waiting.distance);
+    assert_eq!(table.printout(), Ok(format!("table\t16\t600\t1\t0\n{row}\n")));
     assert_eq!(table.closest(&OWN), Ok(vec![node]));
-    assert_eq!(table.closest(&OWN[1..]), Err(5));
-    assert_eq!(table.closest_in(&mut [Node::EMPTY; 15], &OWN), Err(19));
+    assert_eq!(table.closest(&OWN[1..]), Err(Number(5)));
+    assert_eq!(table.closest_in(&mut [Node::EMPTY; 15], &OWN), Err(Number(19)));
 
     let find = datagram(&write::in_vec(|buf| write::find_node(buf, &OWN, UNIX.0)).unwrap());
     assert_eq!(rx(&mut table, &mut counters, 700, &find), Ok(Accepted::FindNode));
     let nodes = datagram(&write::in_vec(|buf| write::neighbors(buf, &[node], UNIX.0)).unwrap());
     assert_eq!(rx(&mut table, &mut counters, 700, &nodes), Ok(Accepted::Neighbors));
     assert_eq!(write::reply_parts(16).collect::<Vec<_>>(), [0..12, 12..16]);
-    assert_eq!(write::reply_parts(0).collect::<Vec<_>>(), [0..0]);
+    assert!(write::reply_parts(0).eq(std::iter::once(0..0)));
     let enr = datagram(&write::in_vec(|buf| write::enr_request(buf, UNIX.0)).unwrap());
     assert_eq!(rx(&mut table, &mut counters, 700, &enr), Ok(Accepted::EnrRequest));
     let record = datagram(&write::in_vec(|buf| write::enr_response(buf, &hash, &[0xc1, 5])).unwrap());
@@ -106,7 +153,7 @@ fn one_peer() {
     assert_eq!(table.closest(&OWN), Ok(vec![node]));
     assert_eq!(table.sweep(&mut counters, at(1401)), Ok(()));
     assert_eq!(table.closest(&OWN), Ok(vec![]));
-    assert_eq!(table.sweep(&mut counters, at(1400)), Err(2));
+    assert_eq!(table.sweep(&mut counters, at(1400)), Err(Number(2)));
 
     let mut wanted = [0; 22];
     for (number, count) in [(0, 13), (2, 2), (11, 1), (14, 1), (15, 1), (17, 1)] {
@@ -147,7 +194,7 @@ fn refused_arguments() {
     ];
     for (address, signer, datagram, number) in cases {
         let answer = table.datagram(&mut counters, MonotonicMillis(1), UNIX, address, 1, signer, datagram);
-        assert_eq!(answer, Err(number));
+        assert_eq!(answer, Err(Number(number)));
     }
     let cases: [Case; 4] = [
         (&PEER, &ADDRESS, &[0; 31], 4),
@@ -157,20 +204,33 @@ fn refused_arguments() {
     ];
     for (key, address, hash, number) in cases {
         let answer = table.ping_sent(&mut counters, MonotonicMillis(1), key, address, 1, 2, hash);
-        assert_eq!(answer, Err(number));
+        assert_eq!(answer, Err(Number(number)));
     }
-    assert_eq!(table.head(&PEER[1..]), Err(5));
-    assert_eq!(table.head(&OWN), Err(7));
+    assert_eq!(table.head(&PEER[1..]), Err(Number(5)));
+    assert_eq!(table.head(&OWN), Err(Number(7)));
+    assert_eq!(table.find(&PEER[1..]), Err(Number(5)));
+    assert_eq!(table.find(&OWN), Err(Number(7)));
+    assert_eq!(table.printout_in(&mut [0; Table::printout_size(16) - 1]), Err(Number(19)));
     assert_eq!(table, fresh);
 
     let mut bytes = fresh.into_bytes();
     bytes[100] = 1;
     let mut unsound = Table::from_bytes(bytes.clone());
-    assert_eq!(unsound.datagram(&mut counters, MonotonicMillis(1), UNIX, &ADDRESS, 1, &PEER, &[]), Err(1));
-    assert_eq!(unsound.ping_sent(&mut counters, MonotonicMillis(1), &PEER, &ADDRESS, 1, 2, &[]), Err(1));
-    assert_eq!(unsound.sweep(&mut counters, MonotonicMillis(1)), Err(1));
-    assert_eq!(unsound.closest(&[]), Err(1));
-    assert_eq!(unsound.head(&[]), Err(1));
+    assert_eq!(
+        unsound.datagram(&mut counters, MonotonicMillis(1), UNIX, &ADDRESS, 1, &PEER, &[]),
+        Err(Number(1))
+    );
+    assert_eq!(
+        unsound.ping_sent(&mut counters, MonotonicMillis(1), &PEER, &ADDRESS, 1, 2, &[]),
+        Err(Number(1))
+    );
+    assert_eq!(unsound.sweep(&mut counters, MonotonicMillis(1)), Err(Number(1)));
+    assert_eq!(unsound.closest(&[]), Err(Number(1)));
+    assert_eq!(unsound.head(&[]), Err(Number(1)));
+    assert_eq!(unsound.find(&[]), Err(Number(1)));
+    assert_eq!(unsound.state(), Err(Number(1)));
+    assert_eq!(unsound.printout(), Err(Number(1)));
+    assert_eq!(unsound.printout_in(&mut []), Err(Number(1)));
     assert_eq!(unsound.bytes(), bytes);
 }
 
@@ -184,8 +244,9 @@ fn not_kept() {
     let near = near.unwrap();
     let hash = [0; 32];
     let answer = table.ping_sent(&mut Counters::default(), MonotonicMillis(1), &near, &ADDRESS, 1, 2, &hash);
-    assert_eq!(answer, Err(12));
-    assert_eq!(table.head(&near), Err(12));
+    assert_eq!(answer, Err(Number(12)));
+    assert_eq!(table.head(&near), Err(Number(12)));
+    assert_eq!(table.find(&near), Err(Number(12)));
 }
 
 #[test]
@@ -202,8 +263,8 @@ fn fields() {
         enr_seq: Some(5),
     };
     assert_eq!(Packet::read(&datagram), Ok(read));
-    assert_eq!(Packet::read(&datagram[..97]), Err(8));
-    assert_eq!(Packet::read(&datagram[..120]), Err(9));
+    assert_eq!(Packet::read(&datagram[..97]), Err(Number(8)));
+    assert_eq!(Packet::read(&datagram[..120]), Err(Number(9)));
 }
 
 /// An unknown `from` is written and read back; both its ports are told.
@@ -220,24 +281,24 @@ fn unknown_from() {
 #[test]
 fn rooms() {
     let mut buf = [0xaa; 40];
-    assert_eq!(write::enr_request(&mut buf[..3], 200), Err(19));
+    assert_eq!(write::enr_request(&mut buf[..3], 200), Err(Number(19)));
     assert_eq!(buf, [0xaa; 40]);
     assert_eq!(write::enr_request(&mut buf[..4], 200), Ok(4));
     assert_eq!(buf[..5], [5, 0xc2, 0x81, 200, 0xaa]);
-    assert_eq!(write::enr_request(&mut [], 200), Err(19));
-    assert_eq!(write::join(&mut buf, &SIGNATURE, &[]), Err(20));
-    assert_eq!(write::join(&mut [], &SIGNATURE[1..], &[1]), Err(20));
-    assert_eq!(write::join(&mut buf, &SIGNATURE, &[1]), Err(19));
-    assert_eq!(write::find_node(&mut buf, &OWN[1..], 1), Err(20));
-    assert_eq!(write::ping(&mut buf, Some(&[7]), 1, 2, &ADDRESS, 3, 4, None), Err(20));
-    assert_eq!(write::ping(&mut buf, None, 1, 2, &[], 3, 4, None), Err(20));
-    assert_eq!(write::pong(&mut buf, &ADDRESS, 3, &[0; 31], 4, None), Err(20));
-    assert_eq!(write::enr_response(&mut buf, &[0; 32], &[0xc1]), Err(20));
-    assert_eq!(write::neighbors(&mut buf, &[Node::EMPTY], 1), Err(20));
+    assert_eq!(write::enr_request(&mut [], 200), Err(Number(19)));
+    assert_eq!(write::join(&mut buf, &SIGNATURE, &[]), Err(Number(20)));
+    assert_eq!(write::join(&mut [], &SIGNATURE[1..], &[1]), Err(Number(20)));
+    assert_eq!(write::join(&mut buf, &SIGNATURE, &[1]), Err(Number(19)));
+    assert_eq!(write::find_node(&mut buf, &OWN[1..], 1), Err(Number(20)));
+    assert_eq!(write::ping(&mut buf, Some(&[7]), 1, 2, &ADDRESS, 3, 4, None), Err(Number(20)));
+    assert_eq!(write::ping(&mut buf, None, 1, 2, &[], 3, 4, None), Err(Number(20)));
+    assert_eq!(write::pong(&mut buf, &ADDRESS, 3, &[0; 31], 4, None), Err(Number(20)));
+    assert_eq!(write::enr_response(&mut buf, &[0; 32], &[0xc1]), Err(Number(20)));
+    assert_eq!(write::neighbors(&mut buf, &[Node::EMPTY], 1), Err(Number(20)));
     let node = Node { key: PEER, endpoint: Endpoint::new(&[255; 16], 65535, 65535).unwrap() };
     let largest = write::in_vec(|buf| write::neighbors(buf, &[node; 12], u64::MAX)).unwrap();
     assert_eq!(datagram(&largest).len(), 1205);
-    assert_eq!(write::in_vec(|buf| write::neighbors(buf, &[node; 13], 1)), Err(20));
+    assert_eq!(write::in_vec(|buf| write::neighbors(buf, &[node; 13], 1)), Err(Number(20)));
     assert_eq!(Endpoint::new(&[0; 5], 1, 2), None);
 }
 

@@ -5,8 +5,8 @@ mod common;
 
 use std::collections::BTreeMap;
 
-use coghammer::{write, Endpoint, Node, Number, Packet};
-use common::{compare_reading, counted, fields};
+use coghammer::{write, Endpoint, Node, Packet};
+use common::{compare_reading, counted, fields, told};
 use reference::generator::datagrams;
 use reference::generator::peers::{random_endpoint, random_port};
 use reference::generator::random::Random;
@@ -72,8 +72,8 @@ fn value(random: &mut Random, kind: usize) -> packet::Packet {
     }
 }
 
-fn write_ours(packet: &packet::Packet, buf: &mut [u8]) -> Result<usize, Number> {
-    match packet {
+fn write_ours(packet: &packet::Packet, buf: &mut [u8]) -> Result<usize, u8> {
+    told(match packet {
         packet::Packet::Ping { from, to, expiration, enr_seq, .. } => {
             let address = from.address.as_deref();
             write::ping(buf, address, from.udp, from.tcp, &to.address, to.udp, *expiration, *enr_seq)
@@ -90,7 +90,7 @@ fn write_ours(packet: &packet::Packet, buf: &mut [u8]) -> Result<usize, Number> 
         packet::Packet::EnrResponse { request_hash, record } => {
             write::enr_response(buf, request_hash, record)
         }
-    }
+    })
 }
 
 /// A room: exactly what is needed, one less, any.
@@ -109,7 +109,7 @@ fn room(random: &mut Random, needed: usize) -> usize {
 fn written() {
     let total = common::calls(20_000);
     let mut random = Random::new(common::seed());
-    let mut numbers: BTreeMap<(usize, Number), usize> = BTreeMap::new();
+    let mut numbers: BTreeMap<(usize, u8), usize> = BTreeMap::new();
     for turn in 0..total {
         let kind = turn % 6 + 1;
         let packet = value(&mut random, kind);
@@ -131,7 +131,7 @@ fn written() {
 }
 
 /// Joins a body, and reads the fields back.
-fn joined(random: &mut Random, packet: &packet::Packet, body: &Result<Vec<u8>, Number>) {
+fn joined(random: &mut Random, packet: &packet::Packet, body: &Result<Vec<u8>, u8>) {
     let signature = sized(random, 65);
     let any = match random.below(10) {
         0 => {
@@ -145,7 +145,7 @@ fn joined(random: &mut Random, packet: &packet::Packet, body: &Result<Vec<u8>, N
     let length = room(random, whole.as_ref().map_or(200, Vec::len));
     let mut ours = random.bytes(length);
     let mut theirs = ours.clone();
-    let answer = write::join(&mut ours, &signature, body);
+    let answer = told(write::join(&mut ours, &signature, body));
     assert_eq!(answer, packet::join(&signature, body, &mut theirs), "join in {length}");
     assert_eq!(ours, theirs, "join in {length}");
     if let (None, Ok(whole)) = (&any, whole) {
@@ -174,7 +174,7 @@ fn packed_nodes() {
         let nodes: Option<Vec<packet::Node>> = packed.chunks(85).map(unpacked).collect();
         let mut ours = random.bytes(1280);
         let mut theirs = ours.clone();
-        let answer = write::neighbors_packed(&mut ours, &packed, 7);
+        let answer = told(write::neighbors_packed(&mut ours, &packed, 7));
         let wanted = match nodes {
             None => Err(20),
             Some(nodes) => packet::write(&packet::Packet::Neighbors { nodes, expiration: 7 }, &mut theirs),

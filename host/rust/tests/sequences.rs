@@ -6,16 +6,17 @@ mod common;
 
 use std::collections::BTreeMap;
 
-use coghammer::{Counters, MonotonicMillis, Node, Number, Packet, Table, UnixSeconds};
-use common::{accepted, compare_reading, counted, fields, head, head_of, node};
-use reference::bucket::PongOutcome;
+use coghammer::{Counters, Held, MonotonicMillis, Node, Number, Packet, Rank, State, Table, UnixSeconds};
+use common::{accepted, compare_reading, counted, fields, head, head_of, node, told};
+use reference::bucket::{Bucket, PongOutcome, Position};
 use reference::calls::{Call, Reply};
 use reference::generator::calls::Calls;
 use reference::generator::random::Random;
 use reference::generator::tables::sound_table;
 use reference::keccak::keccak256;
 use reference::layout::table_bytes;
-use reference::table::{self, Outcome};
+use reference::log;
+use reference::table::{self, distance, log_distance, Outcome};
 
 /// The two tables with their counters.
 struct Pair {
@@ -56,7 +57,7 @@ impl Pair {
             Call::Datagram { signer, datagram, .. } => {
                 self.datagram(call, &reply);
                 compare_reading(datagram);
-                self.head(signer);
+                self.of_key(signer);
                 "datagram"
             }
             Call::PingSent { now, key, endpoint, hash } => {
@@ -64,13 +65,13 @@ impl Pair {
                 let (udp, tcp) = (endpoint.udp, endpoint.tcp);
                 let ours =
                     self.ours.ping_sent(&mut self.counters, now, key, &endpoint.address, udp, tcp, hash);
-                assert_eq!(Reply::PingSent(ours), reply, "{call:?}");
-                self.head(key);
+                assert_eq!(Reply::PingSent(told(ours)), reply, "{call:?}");
+                self.of_key(key);
                 "ping sent"
             }
             Call::Sweep { now } => {
                 let ours = self.ours.sweep(&mut self.counters, MonotonicMillis(*now));
-                assert_eq!(Reply::Sweep(ours), reply, "{call:?}");
+                assert_eq!(Reply::Sweep(told(ours)), reply, "{call:?}");
                 "sweep"
             }
             Call::Closest { target, room } => {
@@ -87,7 +88,7 @@ impl Pair {
         let Call::Datagram { now, unix, address, port, signer, datagram } = call else { unreachable!() };
         let Reply::Datagram(reply) = reply else { unreachable!() };
         let (now, unix) = (MonotonicMillis(*now), UnixSeconds(*unix));
-        let ours = self.ours.datagram(&mut self.counters, now, unix, address, *port, signer, datagram);
+        let ours = told(self.ours.datagram(&mut self.counters, now, unix, address, *port, signer, datagram));
         assert_eq!(ours, reply.as_ref().map(accepted).map_err(|number| *number), "{call:?}");
         let Ok(reply) = reply else { return };
         self.reach(format!("datagram, {:?}", ours.unwrap()));
@@ -103,26 +104,51 @@ impl Pair {
         let Reply::Closest(reply) = reply else { unreachable!() };
         let untouched = Node { key: [0xee; 64], ..Node::EMPTY };
         let mut list = vec![untouched; room];
-        let ours = self.ours.closest_in(&mut list, target);
+        let ours = told(self.ours.closest_in(&mut list, target));
         let mut wanted: Vec<Node> = reply.iter().flatten().map(node).collect();
         assert_eq!(ours, reply.as_ref().map(Vec::len).map_err(|number| *number));
         wanted.resize(room, untouched);
         assert_eq!(list, wanted, "closest to {}", reference::hex(target));
         if room == 16 {
             let found = self.ours.closest(target).map(|list| list.len());
-            assert_eq!(found, ours, "closest in a Vec");
+            assert_eq!(told(found), ours, "closest in a Vec");
         }
     }
 
-    /// The head of a key's bucket, for any key.
-    fn head(&mut self, key: &[u8]) {
-        let ours = self.ours.head(key);
-        self.reach(format!("head {}", table::number(&ours)));
-        assert_eq!(ours, head_in(&self.theirs, key), "head of the bucket of {}", reference::hex(key));
+    /// The head of a key's bucket and where its node is held, for any key.
+    fn of_key(&mut self, key: &[u8]) {
+        let (head, found) = (told(self.ours.head(key)), told(self.ours.find(key)));
+        self.reach(format!("head {}", table::number(&head)));
+        self.reach(match &found {
+            Ok(held) => format!("find, {:?}", held.map(|held| held.rank)),
+            Err(number) => format!("find {number}"),
+        });
+        let bucket = bucket_of(&self.theirs, key);
+        let name = reference::hex(key);
+        assert_eq!(head, bucket.map(|(bucket, _)| bucket.entries.front().map(head_of)), "head by {name}");
+        assert_eq!(found, bucket.map(|(bucket, distance)| held_in(bucket, distance, key)), "find {name}");
+    }
+
+    /// The state and the printout; in a room that is one byte short, nothing.
+    fn tells(&mut self) {
+        let held = |count: fn(&Bucket) -> usize| self.theirs.buckets.iter().map(count).sum();
+        let state = State {
+            clock: MonotonicMillis(self.theirs.clock),
+            buckets: self.theirs.buckets.len(),
+            entries: held(|bucket| bucket.entries.len()),
+            replacements: held(|bucket| bucket.replacements.len()),
+        };
+        assert_eq!(self.ours.state(), Ok(state));
+        assert_eq!(self.ours.printout().as_ref(), Ok(&log::printout(&self.theirs)));
+        let mut short = vec![0xaa; Table::printout_size(state.buckets) - 1];
+        assert_eq!(self.ours.printout_in(&mut short), Err(Number(19)));
+        assert!(short.iter().all(|byte| *byte == 0xaa));
+        self.reach("printout".to_string());
     }
 }
 
-fn head_in(table: &table::Table, key: &[u8]) -> Result<Option<coghammer::Head>, Number> {
+/// A key's bucket, and its logarithmic distance.
+fn bucket_of<'a>(table: &'a table::Table, key: &[u8]) -> Result<(&'a Bucket, usize), u8> {
     if key.len() != 64 {
         return Err(5);
     }
@@ -131,16 +157,26 @@ fn head_in(table: &table::Table, key: &[u8]) -> Result<Option<coghammer::Head>, 
         return Err(7);
     }
     let bucket = &table.buckets[table.index(&id).ok_or(12)?];
-    Ok(bucket.entries.front().map(head_of))
+    Ok((bucket, log_distance(&distance(&table.own, &id)) as usize))
+}
+
+fn held_in(bucket: &Bucket, distance: usize, key: &[u8]) -> Option<Held> {
+    let position = bucket.find(key)?;
+    let (rank, index) = match position {
+        Position::Entry(index) => (Rank::Entry, index),
+        Position::Replacement(index) => (Rank::Replacement, index),
+    };
+    Some(Held { node: node(&bucket.get(position).node()), rank, distance, place: index + 1 })
 }
 
 /// Every answer of every call that a sound table can give.
-const WANTED: [(&str, &[u8]); 5] = [
+const WANTED: [(&str, &[u8]); 6] = [
     ("datagram", &[0, 2, 3, 4, 5, 6, 7, 8, 9, 10, 11, 12, 13, 14, 15]),
     ("ping sent", &[0, 2, 4, 5, 6, 7, 12, 16, 17, 18]),
     ("sweep", &[0, 2]),
     ("closest", &[0, 5, 19]),
     ("head", &[0, 5, 7, 12]),
+    ("find", &[5, 7, 12]),
 ];
 
 #[test]
@@ -163,7 +199,11 @@ fn sequences() {
         for _ in 0..length {
             let call = calls.next(Some(&pair.theirs));
             pair.call(&call);
+            if random.chance(5) {
+                pair.tells();
+            }
         }
+        pair.tells();
         if random.chance(30) {
             pair.counters.clear();
             assert_eq!(pair.counters, Counters::default());
@@ -179,9 +219,11 @@ fn sequences() {
         println!("{count:>9}  {what}");
     }
     let wanted = WANTED.iter().flat_map(|(name, numbers)| numbers.iter().map(move |n| format!("{name} {n}")));
-    let missing: Vec<String> = wanted.filter(|what| !reached.contains_key(what)).collect();
+    let ranks = [None, Some(Rank::Entry), Some(Rank::Replacement)].map(|rank| format!("find, {rank:?}"));
+    let missing: Vec<String> = wanted.chain(ranks).filter(|what| !reached.contains_key(what)).collect();
     assert!(missing.is_empty() || total < 20_000, "never reached: {}", missing.join("; "));
     counted(made, "calls on sound tables agree in answer, fields, counters and every table byte");
+    counted(reached["printout"], "states and printouts agree");
     counted(tables, "tables");
 }
 
@@ -192,7 +234,7 @@ fn full_counters() {
     let mut counters = Counters { counts: [u32::MAX - 1; 22] };
     for _ in 0..3 {
         table.sweep(&mut counters, MonotonicMillis(7)).unwrap();
-        assert_eq!(table.sweep(&mut counters, MonotonicMillis(6)), Err(2));
+        assert_eq!(table.sweep(&mut counters, MonotonicMillis(6)), Err(Number(2)));
     }
     let mut wanted = [u32::MAX - 1; 22];
     (wanted[0], wanted[2]) = (u32::MAX, u32::MAX);

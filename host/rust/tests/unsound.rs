@@ -7,7 +7,7 @@ mod common;
 use std::collections::BTreeMap;
 
 use coghammer::{Counters, MonotonicMillis, Node, Number, Table, UnixSeconds};
-use common::{accepted, counted, node};
+use common::{accepted, counted, node, told};
 use reference::calls::{Call, Reply};
 use reference::generator::calls::Calls;
 use reference::generator::damage::{damage, Store, KINDS};
@@ -17,7 +17,7 @@ use reference::layout;
 use reference::table;
 
 /// Runs a call on any bytes, here and in the reference, and gives its number.
-fn call(memory: &mut Vec<u8>, call: &Call) -> Number {
+fn call(memory: &mut Vec<u8>, call: &Call) -> u8 {
     let before = memory.clone();
     let mut ours = Table::from_bytes(std::mem::take(memory));
     let mut counters = Counters::default();
@@ -27,22 +27,22 @@ fn call(memory: &mut Vec<u8>, call: &Call) -> Number {
         (Call::Datagram { now, unix, address, port, signer, datagram }, Reply::Datagram(reply)) => {
             let (now, unix) = (MonotonicMillis(*now), UnixSeconds(*unix));
             let answer = ours.datagram(&mut counters, now, unix, address, *port, signer, datagram);
-            assert_eq!(answer, reply.as_ref().map(accepted).map_err(|number| *number), "{call:?}");
+            assert_eq!(told(answer), reply.as_ref().map(accepted).map_err(|number| *number), "{call:?}");
         }
         (Call::PingSent { now, key, endpoint, hash }, _) => {
             let (now, address) = (MonotonicMillis(*now), &endpoint.address);
             let answer = ours.ping_sent(&mut counters, now, key, address, endpoint.udp, endpoint.tcp, hash);
-            assert_eq!(Reply::PingSent(answer), reply, "{call:?}");
+            assert_eq!(Reply::PingSent(told(answer)), reply, "{call:?}");
         }
         (Call::Sweep { now }, _) => {
             let answer = ours.sweep(&mut counters, MonotonicMillis(*now));
-            assert_eq!(Reply::Sweep(answer), reply, "{call:?}");
+            assert_eq!(Reply::Sweep(told(answer)), reply, "{call:?}");
         }
         (Call::Closest { target, room }, Reply::Closest(reply)) => {
             let mut list = vec![Node::EMPTY; *room];
             let answer = ours.closest_in(&mut list, target);
             let mut wanted: Vec<Node> = reply.iter().flatten().map(node).collect();
-            assert_eq!(answer, reply.as_ref().map(Vec::len).map_err(|number| *number));
+            assert_eq!(told(answer), reply.as_ref().map(Vec::len).map_err(|number| *number));
             wanted.resize(*room, Node::EMPTY);
             assert_eq!(list, wanted, "{call:?}");
         }
@@ -57,10 +57,17 @@ fn call(memory: &mut Vec<u8>, call: &Call) -> Number {
     reply.number()
 }
 
-/// Where a keyed call answers 1, `head` does too, and the other way round.
-fn head_agrees(memory: &[u8], key: &[u8], number: Number) {
-    let head = Table::from_bytes(memory.to_vec()).head(key);
-    assert_eq!(head == Err(1), number == 1, "head of {}", reference::hex(key));
+/// Where a keyed call answers 1, `head` and `find` do too; where a sweep does, `state` and `printout`; and the other
+/// way round.
+fn told_agrees(memory: &[u8], call: &Call, number: u8) {
+    let table = Table::from_bytes(memory.to_vec());
+    let refused = match call {
+        Call::PingSent { key, .. } | Call::Datagram { signer: key, .. } => {
+            [table.head(key) == Err(Number(1)), table.find(key) == Err(Number(1))]
+        }
+        _ => [table.state() == Err(Number(1)), table.printout_in(&mut []) == Err(Number(1))],
+    };
+    assert_eq!(refused, [number == 1; 2], "what is told of the table of {call:?}");
 }
 
 #[test]
@@ -90,9 +97,7 @@ fn damaged_tables() {
             for trial in trials {
                 let before = memory.clone();
                 let number = call(&mut memory, &trial);
-                if let Call::PingSent { key, .. } | Call::Datagram { signer: key, .. } = &trial {
-                    head_agrees(&before, key, number);
-                }
+                told_agrees(&before, &trial, number);
                 made += 1;
                 *ones.entry(format!("{kind:?}")).or_insert(0) += usize::from(number == 1);
             }
@@ -136,7 +141,10 @@ fn any_bytes() {
             1 => Call::Sweep { now: random.any_size() },
             _ => Call::Closest { target: random.bytes(64), room: 16 },
         };
-        ones += usize::from(call(&mut memory, &trial) == 1);
+        let before = memory.clone();
+        let number = call(&mut memory, &trial);
+        told_agrees(&before, &trial, number);
+        ones += usize::from(number == 1);
     }
     counted(total, "calls on any bytes agree");
     counted(ones, "of them answer 1 and change nothing");

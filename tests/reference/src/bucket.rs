@@ -101,7 +101,7 @@ impl Bucket {
         self.find(key).map(|position| self.get(position))
     }
 
-    fn to_tail(&mut self, index: usize) {
+    fn move_to_tail(&mut self, index: usize) {
         let entry = self.entries.remove(index).unwrap();
         self.entries.push_back(entry);
     }
@@ -115,7 +115,7 @@ impl Bucket {
         match position {
             // "A seated node goes to the tail."
             Position::Entry(index) => {
-                self.to_tail(index);
+                self.move_to_tail(index);
                 PongOutcome::Tail
             }
             // "A waiting node takes a free seat at the tail,
@@ -137,7 +137,7 @@ impl Bucket {
     pub fn heard(&mut self, position: Position, now: u64) {
         self.get_mut(position).last_seen = now;
         if let Position::Entry(index) = position {
-            self.to_tail(index);
+            self.move_to_tail(index);
         }
     }
 

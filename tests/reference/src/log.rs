@@ -75,7 +75,7 @@ fn bytes(field: &[u8]) -> Option<Vec<u8>> {
             _ => None,
         }
     }
-    if field.is_empty() || field.len() % 2 != 0 {
+    if field.is_empty() || field.len() % 2 == 1 {
         return None;
     }
     field.chunks(2).map(|pair| Some(digit(pair[0])? << 4 | digit(pair[1])?)).collect()

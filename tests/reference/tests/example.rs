@@ -14,10 +14,8 @@ fn two_ports() {
     assert_eq!(output.as_bytes(), stored("two-ports.out"));
     // the explained answers and the nodes of the printout are these
     let explained = String::from_utf8(stored("two-ports.md")).unwrap();
-    let rows: Vec<&str> = explained
-        .lines()
-        .filter(|row| row.starts_with(|c: char| c == '|') && row.as_bytes()[2].is_ascii_digit())
-        .collect();
+    let rows: Vec<&str> =
+        explained.lines().filter(|row| row.starts_with('|') && row.as_bytes()[2].is_ascii_digit()).collect();
     for (number, answer) in output.lines().take(21).enumerate() {
         let cells: Vec<&str> = rows[number].split(" | ").collect();
         assert_eq!(cells[0], format!("| {}", number + 1));

@@ -134,7 +134,7 @@ fn l5_lines_of_3000_and_3001() {
     let line = |length: usize, ms: &str| {
         let before = format!("rx\t{ms}\t1\tc0000207\t1\t-\t");
         let digits = length - before.len();
-        assert!(digits % 2 == 0);
+        assert_eq!(digits % 2, 0);
         format!("{before}{}", "a".repeat(digits))
     };
     // 22 characters before the datagram: an even length

@@ -31,7 +31,7 @@ same-length-2 c = search needs
 returns-2 : tie.Need-returns-2
 returns-2 c =
     let p = c .before .before .before .before .before .before .before .before .before .before .before .pre in
-    let r = c .take-unfit in
+    let r = c .stop in
     let f = long-step (c .before .before .before .before .before .before .before .before .before .before .before .args .p .begun) (c .before .before .before .before .before .before .before .before .before .before .before .args .chunk .now) (c .before .before .before .before .before .before .before .before .before .before .before .args .p .at) (c .before .before .next .given .0 .0) (sym (c .before .before .before .before .before .before .next-line .ensures .0) ∙ c .before .before .next .given .1) in
     let n : r .result .at ≤ length (c .before .before .before .before .before .before .before .before .before .before .before .args .chunk .now) = omega (arith, r .ensures .1, f .1) in
     (going-on (p .0) _ (r .result) (same-length-2 c) (fresh-size (r .result .begun) (r .ensures .0)), (n, left-on (c .before .before .before .before .before .before .before .before .before .before .before .args .chunk .now) (c .before .before .before .before .before .before .before .before .before .before .before .args .p) (r .result) (p .1 .1) (omega (arith, r .ensures .1, f .0)) n))

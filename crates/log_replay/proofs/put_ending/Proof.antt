@@ -1,5 +1,6 @@
 -- `log_replay::put_ending` meets its contract. Assumes nothing.
-use Rattle.log_replay.proofs.Ending.{nothing-printed, printed-sound, printed-count, printed}
+use native.Mathlib.Omega.{arith}
+use Rattle.log_replay.proofs.Ending.{nothing-printed, printed-sound, printed-room, printed}
 use borrow.Author.Needs.{needs}
 use Rattle.log_replay.proofs.put_ending.Statement.{statement}
 use Rattle.log_replay.proofs.put_ending.Tie as tie
@@ -13,7 +14,7 @@ put-table-requires c κs =
     let p = c .before .before .before .before .before .before .before .pre in
     let z = c .before .before .size in (
       printed-sound (a .replay) (a .memory .now) (p .1 .0) (p .1 .1 .0) (c .before .before .before .if1 .left) (p .1 .1 .1) (z .result) (z .ensures .0),
-      (printed-count (a .replay) (a .memory .now) (p .1 .0) (p .1 .1 .0) (c .before .before .before .if1 .left) (p .1 .1 .1) (z .result) (z .ensures .0), p .0),
+      omega (arith, p .0, printed-room (a .replay) (a .memory .now) (p .1 .0) (p .1 .1 .0) (c .before .before .before .if1 .left) (p .1 .1 .1) (z .result) (z .ensures .0)),
     )
 
 returns-2 : tie.Need-returns-2

@@ -26,7 +26,7 @@ pieces-are c =
 begun : (c : tie.Start) → IsBytes (c .args .table .now) → Progress (c .args .out .now) 0 (pieces c) (pieces c) (c .args .out .now) 0
 begun c bs =
     start (c .args .out .now) 0 (pieces c)
-    (omega (arith, c .pre .1 .1, ap length (pieces-are c), printout-fits (c .args .table .now) bs (c .pre .0) (c .pre .1 .0)))
+    (omega (arith, c .pre .1, ap length (pieces-are c), printout-fits (c .args .table .now) bs (c .pre .0)))
 
 put-head-requires : tie.Need-put-head-requires
 put-head-requires c κs = (c .before .before .before .pre .0, omega (arith, room (begun (c .before .before .before) (λ k. c .before .shared-slice-known .given k .fits))))

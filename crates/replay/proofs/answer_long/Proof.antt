@@ -10,12 +10,16 @@ same-length c = search needs
 
 returns : tie.Need-returns
 returns c =
-    ((refl, c .new .ensures), (omega (arith, same-length c, c .before .before .before .before .before .make-room .ensures, c .before .before .before .too-long .ensures .1 .1), (refl, refl)))
+    ((refl, c .before .new .ensures), (omega (arith, same-length c, c .before .before .before .before .before .before .before .before .before .make-room .ensures, c .before .before .before .before .before .before .before .too-long .ensures .1 .1), refl))
 
 pub answer-long-spec : {M : Type 1} → statement M
 answer-long-spec =
     tie.close
     (tie.spec
+    (λ c κs. search needs)
+    (λ c. search needs)
+    (λ c. search needs)
+    (λ c. search needs)
     (λ c κs. search needs)
     (λ c. search needs)
     (λ c. search needs)

@@ -21,8 +21,8 @@ returns c =
     let p = c .before .before .before .before .before .before .before .before .before .before .before .before .before .before .before .before .before .before .before .before .pre in
     let r = c .before .before .before .before .answer in
     let f = line-step (c .before .before .before .before .before .before .before .before .before .before .before .before .before .before .before .before .before .before .before .before .args .p .begun) (c .before .before .before .before .before .before .before .before .before .before .before .before .before .before .before .before .before .before .before .before .args .chunk .now) (c .before .before .before .before .before .before .before .before .before .before .before .before .before .before .before .before .before .before .before .before .args .p .at) (c .before .before .before .before .before .before .before .before .before .len .given .0 .0) (c .before .before .before .before .before .before .before .before .before .len .given .0 .1 .0) (p .0 .line-size) (sym (c .before .before .before .before .before .before .before .before .before .before .before .before .before .next-line .ensures .0) ∙ c .before .before .before .before .before .before .before .before .before .len .given .1) in
-    let n : r .result .at ≤ length (c .before .before .before .before .before .before .before .before .before .before .before .before .before .before .before .before .before .before .before .before .args .chunk .now) = omega (arith, r .ensures .1 .0, f .1 .1) in
-    (r .ensures .0, (n, left-on (c .before .before .before .before .before .before .before .before .before .before .before .before .before .before .before .before .before .before .before .before .args .chunk .now) (c .before .before .before .before .before .before .before .before .before .before .before .before .before .before .before .before .before .before .before .before .args .p) (r .result) (p .1 .1) (r .ensures .1 .1) (omega (arith, r .ensures .1 .0, f .1 .0)) n))
+    let n : r .result .at ≤ length (c .before .before .before .before .before .before .before .before .before .before .before .before .before .before .before .before .before .before .before .before .args .chunk .now) = omega (arith, r .ensures .1, f .1 .1) in
+    (r .ensures .0, (n, left-on (c .before .before .before .before .before .before .before .before .before .before .before .before .before .before .before .before .before .before .before .before .args .chunk .now) (c .before .before .before .before .before .before .before .before .before .before .before .before .before .before .before .before .before .before .before .before .args .p) (r .result) (p .1 .1) (omega (arith, r .ensures .1, f .1 .0)) n))
 
 same-length-5 : tie.Need-same-length-5
 same-length-5 c = search needs
@@ -32,17 +32,17 @@ returns-2 c =
     let p = c .before .before .before .before .before .before .before .before .before .before .before .before .before .before .before .before .pre in
     let r = c .before .before .answer-long in
     let f = long-step (c .before .before .before .before .before .before .before .before .before .before .before .before .before .before .before .before .args .p .begun) (c .before .before .before .before .before .before .before .before .before .before .before .before .before .before .before .before .args .chunk .now) (c .before .before .before .before .before .before .before .before .before .before .before .before .before .before .before .before .args .p .at) (c .before .before .before .before .before .next .given .0 .0) (sym (c .before .before .before .before .before .before .before .before .before .next-line .ensures .0) ∙ c .before .before .before .before .before .next .given .1) in
-    let n : r .result .at ≤ length (c .before .before .before .before .before .before .before .before .before .before .before .before .before .before .before .before .args .chunk .now) = omega (arith, r .ensures .1 .1 .0, f .1) in (
+    let n : r .result .at ≤ length (c .before .before .before .before .before .before .before .before .before .before .before .before .before .before .before .before .args .chunk .now) = omega (arith, r .ensures .1 .1, f .1) in (
       after-long (p .0) _ _ (r .result) (c .before .before .before .before .before .before .before .before .before .next-line .kept .0) (same-length-5 c) (r .ensures .0) (r .ensures .1 .0),
-      (n, left-on (c .before .before .before .before .before .before .before .before .before .before .before .before .before .before .before .before .args .chunk .now) (c .before .before .before .before .before .before .before .before .before .before .before .before .before .before .before .before .args .p) (r .result) (p .1 .1) (r .ensures .1 .1 .1) (omega (arith, r .ensures .1 .1 .0, f .0)) n),
+      (n, left-on (c .before .before .before .before .before .before .before .before .before .before .before .before .before .before .before .before .args .chunk .now) (c .before .before .before .before .before .before .before .before .before .before .before .before .before .before .before .before .args .p) (r .result) (p .1 .1) (omega (arith, r .ensures .1 .1, f .0)) n),
     )
 
 returns-3 : tie.Need-returns-3
 returns-3 c =
-    let p = c .before .before .before .before .before .before .before .before .before .before .before .before .before .pre in
-    let small = more-step (c .before .before .before .before .before .before .before .before .before .before .before .before .before .args .p .begun) (c .before .before .before .before .before .before .before .before .before .before .before .before .before .args .chunk .now) (c .before .before .before .before .before .before .before .before .before .before .before .before .before .args .p .at) (c .before .before .begun2 .given .0 .0) (p .0 .line-size) (sym (c .before .before .before .before .before .before .next-line .ensures .0) ∙ c .before .before .begun2 .given .1) in (
-      going-on (p .0) _ (c .before .before .before .before .before .before .before .before .before .before .before .before .before .args .out .now) _ (c .before .before .before .before .before .before .next-line .kept .0) refl refl small (p .0 .used-size),
-      (p .1 .0, left-end (c .before .before .before .before .before .before .before .before .before .before .before .before .before .args .chunk .now) (c .before .before .before .before .before .before .before .before .before .before .before .before .before .args .p) _ (p .1 .1) refl refl),
+    let p = c .before .before .before .before .before .before .before .before .before .before .before .before .before .before .pre in
+    let small = more-step (c .before .before .before .before .before .before .before .before .before .before .before .before .before .before .args .p .begun) (c .before .before .before .before .before .before .before .before .before .before .before .before .before .before .args .chunk .now) (c .before .before .before .before .before .before .before .before .before .before .before .before .before .before .args .p .at) (c .before .before .before .begun2 .given .0 .0) (p .0 .line-size) (sym (c .before .before .before .before .before .before .before .next-line .ensures .0) ∙ c .before .before .before .begun2 .given .1) in (
+      going-on (p .0) _ (c .before .before .before .before .before .before .before .before .before .before .before .before .before .before .args .out .now) _ (c .before .before .before .before .before .before .before .next-line .kept .0) refl refl small (p .0 .used-size),
+      (p .1 .0, left-end (c .before .before .before .before .before .before .before .before .before .before .before .before .before .before .args .chunk .now) (c .before .before .before .before .before .before .before .before .before .before .before .before .before .before .args .p) _ (p .1 .1) refl refl),
     )
 
 pub turn-spec : {M : Type 1} → statement M

@@ -1,7 +1,7 @@
 //! What the tests share: values of the reference as values of the wrapper, and bounds.
 #![allow(dead_code)]
 
-use coghammer::{Accepted, Endpoint, Head, MonotonicMillis, Node, Packet, Standing};
+use coghammer::{Accepted, Endpoint, Head, MonotonicMillis, Node, Number, Packet, Standing};
 use reference::bucket::{Entry, PingState, PongOutcome};
 use reference::packet;
 use reference::table::{self, Outcome};
@@ -100,9 +100,14 @@ pub fn fields(packet: &Packet) -> packet::Packet {
     }
 }
 
+/// An answer with its number as the reference has it.
+pub fn told<T>(answer: Result<T, Number>) -> Result<T, u8> {
+    answer.map_err(|number| number.0)
+}
+
 /// Compares what is read of any datagram; gives the number.
 pub fn compare_reading(datagram: &[u8]) -> u8 {
-    let ours = Packet::read(datagram).map(|packet| fields(&packet));
+    let ours = told(Packet::read(datagram).map(|packet| fields(&packet)));
     // the reference reads only datagrams of a good length
     let theirs = if datagram.len() < packet::HEADER { Err(8) } else { packet::read(datagram) };
     assert_eq!(ours, theirs, "fields of {}", reference::hex(datagram));

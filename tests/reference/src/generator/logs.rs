@@ -135,7 +135,7 @@ fn faulty_own(random: &mut Random, count: usize) -> Vec<u8> {
     let text = match random.below(8) {
         0 => format!("own\t01\t{key}"),
         1 => format!("own\t18446744073709551616\t{key}"),
-        2 => format!("own\t16\t-"),
+        2 => "own\t16\t-".to_string(),
         3 => format!("own\t16\t{key}\t"),
         4 => format!("own\t16\t{key}\r"),
         5 => format!("own\t16\t{}", key.to_uppercase()),

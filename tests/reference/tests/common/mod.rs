@@ -11,7 +11,7 @@ use reference::{hex, Number};
 pub fn bytes(text: &str) -> Vec<u8> {
     let digits: Vec<u32> =
         text.chars().filter(|c| *c != ' ').map(|c| c.to_digit(16).expect("a hex digit")).collect();
-    assert!(digits.len() % 2 == 0, "whole bytes");
+    assert_eq!(digits.len() % 2, 0, "whole bytes");
     digits.chunks(2).map(|pair| (pair[0] * 16 + pair[1]) as u8).collect()
 }
 

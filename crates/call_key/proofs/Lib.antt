@@ -1,0 +1,5 @@
+pub mod Places
+pub mod Heads
+pub mod Founds
+pub mod Kept
+pub mod Named
