@@ -1,6 +1,6 @@
 // Coghammer: the discv4 discovery routine. Each function is exported by the crate capi, whose contracts state its complete outcome.
 //
-// A byte string is a pointer and a length; the pointer must not be null, also where the length is 0. What a call is lent to write must not
+// A byte string or a list is a pointer and a length; the pointer must not be null, also where the length is 0. What a call is lent to write must not
 // overlap anything else that it is lent; what is only read may. No call keeps a pointer, allocates, or fails otherwise than by its answer number.
 //
 // Threads. The library has no state of its own. One call at a time may use a table or its counters, a reading call beside a writing one included:
@@ -55,7 +55,8 @@ enum {
     COGHAMMER_SHORT_ROOM = 19,
     COGHAMMER_NOT_WRITABLE = 20,
     COGHAMMER_UNREADABLE = 21, // of a log's line: no call here gives it
-    COGHAMMER_NOT_ENODE = 22
+    COGHAMMER_NOT_ENODE = 22,
+    COGHAMMER_NOT_WHOLE = 28
 };
 
 // An answer number in words, as docs/NUMBERS.md has them.
@@ -84,6 +85,7 @@ static inline const char *coghammer_text(uint8_t number) {
     case COGHAMMER_NOT_WRITABLE: return "the value can't be written";
     case COGHAMMER_UNREADABLE: return "the log's line is not readable";
     case COGHAMMER_NOT_ENODE: return "no enode line";
+    case COGHAMMER_NOT_WHOLE: return "the burst's lists don't fit together";
     default: return "no answer number";
     }
 }
@@ -182,6 +184,16 @@ uint8_t coghammer_ping_sent(coghammer_counters *counters, uint8_t *table, size_t
 // Removes nodes that did not answer a ping in time and nodes of the waiting line whose proof has expired, and gives free seats to those that wait. Only
 // a sweep removes nodes. Counted. The answer number: 0, 1 or 2.
 uint8_t coghammer_sweep(coghammer_counters *counters, uint8_t *table, size_t table_len, coghammer_millis clock);
+
+// Up to 32 datagrams that came, end to end in buffer by lengths. For each a signer's key of 64 bytes, all zeros where the signature recovers none;
+// an address of COGHAMMER_PACKED_ADDRESS bytes, its length and 16 bytes; a UDP port; millis and unix_times as clock and unix_time above. They are
+// handed over one after the other, and a refused one doesn't stop the rest: each one's answer number is written to numbers, and counted. The
+// answer number of the burst isn't counted: 0, or 28 and nothing is handled or written, where there are more than 32, the lengths don't sum to
+// buffer_len, or the lists differ in length. Each length counts the elements of its list.
+uint8_t coghammer_burst(coghammer_counters *counters, uint8_t *table, size_t table_len, uint8_t *numbers, size_t numbers_len, const uint8_t *buffer, size_t buffer_len, const size_t *lengths, size_t lengths_len, const uint8_t *signers, size_t signers_len, const uint8_t *addresses, size_t addresses_len, const uint16_t *ports, size_t ports_len, const coghammer_millis *millis, size_t millis_len, const coghammer_unix *unix_times, size_t unix_times_len);
+
+#define COGHAMMER_BURST 32
+#define COGHAMMER_PACKED_ADDRESS 17
 
 // Clears the counters.
 void coghammer_clear(coghammer_counters *counters);

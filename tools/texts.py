@@ -22,7 +22,7 @@ cells = [[cell.strip() for cell in line.split("|")[1:-1]] for line in read("docs
 words = {
     "docs/NUMBERS.md": [(row[0], row[2]) for row in cells],
     "include/coghammer.h": [(dict(names["include/coghammer.h"])[name], text) for name, text in re.findall(r'case COGHAMMER_(\w+): return "(.*)";', header)],
-    "host/rust/src/number.rs": [(str(n), text) for n, text in enumerate(re.findall(r'^        "(.*)",$', rust, re.M))],
+    "host/rust/src/number.rs": [(dict(names["host/rust/src/number.rs"])[name], text) for name, text in re.findall(r'\(Number::(\w+), "(.*)"\)', rust)],
 }
 faults = 0
 for kind in (names, words):

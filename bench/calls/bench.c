@@ -88,6 +88,42 @@ static void measure(const char *name, int out, const uint8_t *packet, size_t len
     printf("  %-34s %7.2f us hashing  %7.2f us the call  %.2f\n", name, hashing / 1e3, calls / 1e3, calls / hashing);
 }
 
+// 32 of the packet, from entry after entry, by one call and by 32, on the same table
+static void measure_burst(const uint8_t *packet, size_t len) {
+    enum { COUNT = COGHAMMER_BURST };
+    static uint8_t buffer[COUNT * 1280], signers[64 * COUNT], addresses[COGHAMMER_PACKED_ADDRESS * COUNT], numbers[COUNT];
+    size_t lengths[COUNT];
+    uint16_t ports[COUNT];
+    coghammer_millis millis[COUNT];
+    coghammer_unix times[COUNT];
+    coghammer_counters counters;
+    coghammer_clear(&counters);
+    double one = 1e18, many = 1e18;
+    fill(0);
+    for (int i = 0; i < COUNT; i++) {
+        memcpy(buffer + i * len, packet, len);
+        lengths[i] = len;
+        memcpy(signers + 64 * i, keys[i % ENTRIES], 64);
+        addresses[COGHAMMER_PACKED_ADDRESS * i] = 4;
+        memcpy(addresses + COGHAMMER_PACKED_ADDRESS * i + 1, address, 4);
+        ports[i] = 77;
+        millis[i] = (coghammer_millis){20};
+        times[i] = (coghammer_unix){0};
+    }
+    for (int t = 0; t < TURNS; t++) {
+        memcpy(table, full, sizeof table);
+        double start = now();
+        for (int i = 0; i < COUNT; i++)
+            if (COGHAMMER_NUMBER(coghammer_datagram(&counters, table, sizeof table, (coghammer_millis){20}, (coghammer_unix){0}, address, 4, 77, signers + 64 * i, 64, buffer + i * len, len))) exit(1);
+        many = best_of(many, now() - start);
+        memcpy(table, full, sizeof table);
+        start = now();
+        if (coghammer_burst(&counters, table, sizeof table, numbers, COUNT, buffer, COUNT * len, lengths, COUNT, signers, sizeof signers, addresses, sizeof addresses, ports, COUNT, millis, COUNT, times, COUNT)) exit(1);
+        one = best_of(one, now() - start);
+    }
+    printf("  %-34s %7.2f us 32 calls %7.2f us one call  %.3f\n", "32 Pings", many / 1e3, one / 1e3, one / many);
+}
+
 int main(void) {
     uint8_t body[1280], packet[1280], nodes[12 * COGHAMMER_PACKED_NODE] = {0};
     find_keys();
@@ -99,5 +135,6 @@ int main(void) {
     for (int i = 0; i < 12; i++) nodes[i * COGHAMMER_PACKED_NODE] = 4;
     measure("Neighbors of 12 nodes", 0, packet, joined(packet, body, coghammer_write_neighbors(body, 1280, nodes, sizeof nodes, 99)));
     measure("ping sent", 0, 0, 0);
+    measure_burst(packet, joined(packet, body, coghammer_write_ping(body, 1280, address, 4, 1, 1, address, 4, 1, 99, false, 0)));
     return 0;
 }

@@ -59,11 +59,13 @@ static void layout(void) {
     CHECK(COGHAMMER_PRINTOUT_SIZE(16) == 43881 && COGHAMMER_STATE == 4 && COGHAMMER_HEAD == 2 && COGHAMMER_HELD == 3);
 }
 
+static int is_number(int n) { return n <= COGHAMMER_NOT_ENODE || n == COGHAMMER_NOT_WHOLE; }
+
 // Every number has words of its own, and nothing else has.
 static void texts(void) {
     for (int i = 0; i < 256; i++)
         for (int j = 0; j < i; j++)
-            CHECK((strcmp(coghammer_text((uint8_t)i), coghammer_text((uint8_t)j)) == 0) == (j > COGHAMMER_NOT_ENODE));
+            CHECK((strcmp(coghammer_text((uint8_t)i), coghammer_text((uint8_t)j)) == 0) == (!is_number(i) && !is_number(j)));
     CHECK(strcmp(coghammer_text(255), "no answer number") == 0);
 }
 
@@ -389,6 +391,71 @@ static void calls(void) {
     CHECK(memcmp(counters.counts, wanted, sizeof wanted) == 0);
 }
 
+// A burst beside the same datagrams by themselves, and lists that don't fit together.
+static void bursts(void) {
+    enum { COUNT = 5 };
+    uint8_t body[LARGEST], buffer[COUNT * LARGEST], signers[64 * (COGHAMMER_BURST + 1)] = {0}, addresses[COGHAMMER_PACKED_ADDRESS * (COGHAMMER_BURST + 1)] = {0};
+    uint8_t numbers[COGHAMMER_BURST + 1], single[SIZE];
+    size_t lengths[COGHAMMER_BURST + 1] = {0}, total = 0;
+    uint16_t ports[COGHAMMER_BURST + 1] = {0};
+    coghammer_millis millis[COGHAMMER_BURST + 1] = {{0}};
+    coghammer_unix times[COGHAMMER_BURST + 1] = {{0}};
+    coghammer_counters one_by_one;
+    CHECK(COGHAMMER_BURST == 32 && COGHAMMER_PACKED_ADDRESS == 17 && sizeof(size_t) == 8);
+    CHECK(coghammer_init(table, SIZE, own, 64, BUCKETS) == 0);
+    memcpy(single, table, SIZE);
+    coghammer_clear(&counters);
+    coghammer_clear(&one_by_one);
+
+    // a ping, one with an earlier clock, one whose signature recovers no key, one from an address of 7 bytes, and a ping again
+    static const uint8_t wanted[COUNT] = {0, 2, 5, 6, 0};
+    for (int i = 0; i < COUNT; i++) {
+        lengths[i] = datagram_of(buffer + total, body, coghammer_write_ping(body, LARGEST, address, 4, 1, 2, other, 4, 3, now_unix, false, 0));
+        total += lengths[i];
+        if (i != 2) memcpy(signers + 64 * i, peer, 64);
+        addresses[17 * i] = i == 3 ? 7 : 4;
+        memcpy(addresses + 17 * i + 1, address, 4);
+        ports[i] = 30303;
+        millis[i] = MS(i == 1 ? 9 : 10);
+        times[i] = UNIX(now_unix);
+    }
+    memset(numbers, 0xaa, sizeof numbers);
+    memcpy(before, table, SIZE);
+
+    // each list shorter and longer by one, then a wrapped sum: nothing is handled
+    for (int list = 0; list < 8; list++)
+        for (int longer = 0; longer < 2; longer++) {
+            size_t n[8] = {COUNT, total, COUNT, 64 * COUNT, 17 * COUNT, COUNT, COUNT, COUNT};
+            n[list] = longer ? n[list] + 1 : n[list] - 1;
+            CHECK(coghammer_burst(&counters, table, SIZE, numbers, n[0], buffer, n[1], lengths, n[2], signers, n[3], addresses, n[4], ports, n[5], millis, n[6], times, n[7]) == 28);
+        }
+    size_t half = (size_t)1 << 63, wrapped[3] = {half, half, 5};
+    CHECK(coghammer_burst(&counters, table, SIZE, numbers, 3, buffer, 5, wrapped, 3, signers, 192, addresses, 51, ports, 3, millis, 3, times, 3) == 28);
+    CHECK(all(numbers, sizeof numbers, 0xaa) && memcmp(table, before, SIZE) == 0 && all((uint8_t *)&counters, sizeof counters, 0));
+
+    // whole: as by themselves
+    CHECK(coghammer_burst(&counters, table, SIZE, numbers, COUNT, buffer, total, lengths, COUNT, signers, 64 * COUNT, addresses, 17 * COUNT, ports, COUNT, millis, COUNT, times, COUNT) == 0);
+    CHECK(memcmp(numbers, wanted, COUNT) == 0 && all(numbers + COUNT, sizeof numbers - COUNT, 0xaa));
+    size_t at = 0;
+    for (int i = 0; i < COUNT; i++) {
+        uint32_t code = coghammer_datagram(&one_by_one, single, SIZE, millis[i], times[i], address, i == 3 ? 3 : 4, ports[i], peer, i == 2 ? 0 : 64, buffer + at, lengths[i]);
+        CHECK(COGHAMMER_NUMBER(code) == numbers[i]);
+        at += lengths[i];
+    }
+    CHECK(memcmp(single, table, SIZE) == 0 && memcmp(&one_by_one, &counters, sizeof counters) == 0);
+
+    // none, 32 and 33 of length 0; and memory that is no table
+    CHECK(coghammer_burst(&counters, table, SIZE, numbers, 0, buffer, 0, lengths, 0, signers, 0, addresses, 0, ports, 0, millis, 0, times, 0) == 0);
+    memset(lengths, 0, sizeof lengths);
+    for (int i = 0; i <= COGHAMMER_BURST; i++) millis[i] = MS(10);
+    CHECK(coghammer_burst(&counters, table, SIZE, numbers, 33, buffer, 0, lengths, 33, signers, 64 * 33, addresses, 17 * 33, ports, 33, millis, 33, times, 33) == 28);
+    CHECK(coghammer_burst(&counters, table, SIZE, numbers, 32, buffer, 0, lengths, 32, signers, 64 * 32, addresses, 17 * 32, ports, 32, millis, 32, times, 32) == 0);
+    CHECK(all(numbers, 32, 3) && numbers[32] == 0xaa && counters.counts[3] == 32);
+    CHECK(coghammer_burst(&counters, table, SIZE - 1, numbers, 32, buffer, 0, lengths, 32, signers, 64 * 32, addresses, 17 * 32, ports, 32, millis, 32, times, 32) == 0);
+    CHECK(all(numbers, 32, 1) && counters.counts[1] == 32);
+    CHECK(coghammer_burst(&counters, table, SIZE - 1, numbers, 31, buffer, 0, lengths, 32, signers, 64 * 32, addresses, 17 * 32, ports, 32, millis, 32, times, 32) == 28);
+}
+
 static void unsound(void) {
     coghammer_node node, kept;
     uint64_t told[COGHAMMER_STATE] = {77, 77, 77, 77}, size = 77;
@@ -420,6 +487,7 @@ int main(void) {
     neighbors();
     boot_lists();
     calls();
+    bursts();
     unsound();
     printf("%d checks, %d failed\n", checks, failures);
     return failures != 0;

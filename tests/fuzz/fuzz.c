@@ -1,5 +1,5 @@
 // fuzz SECONDS [SEED]: drives the functions of include/coghammer.h with sound, mutated and random tables, with datagrams mutated from valid
-// ones, with boot lists, and with rooms of every size, for so long. The last line says how many calls were made; the exit status is not 0
+// ones, by themselves and in bursts, with boot lists, and with rooms of every size, for so long. The last line says how many calls were made; the exit status is not 0
 // where a check failed.
 //
 // Every call is made twice, with its memory lent in two ways, and must answer the same and leave the same bytes. A block is lent on the heap
@@ -17,7 +17,7 @@
 
 enum {
     HEADER = 512, BUCKET = 2862, ENTRY = 143, MOST = COGHAMMER_TABLE_SIZE(257), LARGEST = 1280, LONGEST = 1400, PACKED = COGHAMMER_PACKED_NODE,
-    PEERS = 48, ARGUMENTS = 6, MARGIN = 64, MARK = 0xa5
+    PEERS = 48, ARGUMENTS = 10, MARGIN = 64, MARK = 0xa5
 };
 
 static uint64_t calls, reached[22], seed;
@@ -133,6 +133,11 @@ static uint64_t init(uint8_t **p, const size_t *len, const uint64_t *n) { return
 static uint64_t datagram(uint8_t **p, const size_t *len, const uint64_t *n) {
     return coghammer_datagram((coghammer_counters *)p[0], p[1], len[1], (coghammer_millis){n[0]}, (coghammer_unix){n[1]}, p[2], len[2], (uint16_t)n[2], p[3], len[3], p[4], len[4]);
 }
+static uint64_t burst(uint8_t **p, const size_t *len, const uint64_t *n) {
+    (void)n;
+    return coghammer_burst((coghammer_counters *)p[0], p[1], len[1], p[2], len[2], p[3], len[3], (size_t *)p[4], len[4] / sizeof(size_t), p[5], len[5],
+                           p[6], len[6], (uint16_t *)p[7], len[7] / 2, (coghammer_millis *)p[8], len[8] / 8, (coghammer_unix *)p[9], len[9] / 8);
+}
 static uint64_t ping_sent(uint8_t **p, const size_t *len, const uint64_t *n) {
     return coghammer_ping_sent((coghammer_counters *)p[0], p[1], len[1], (coghammer_millis){n[0]}, p[2], len[2], p[3], len[3], (uint16_t)n[1], (uint16_t)n[2],
                                p[4], len[4]);
@@ -208,6 +213,7 @@ static uint64_t keccak256(uint8_t **p, const size_t *len, const uint64_t *n) {
     return 0;
 }
 
+// The byte of padding before the ports of a record that was written has no value: two calls may leave it different.
 static uint64_t read_enodes(uint8_t **p, const size_t *len, const uint64_t *n) {
     (void)n;
     uint8_t number = coghammer_read_enodes((coghammer_node *)p[0], len[0] / sizeof(coghammer_node), p[1], len[1], (uint64_t *)p[2]);
@@ -595,6 +601,84 @@ static void sound_step(void) {
     memcpy(table, next_table, size);
 }
 
+static uint64_t bursts[2];
+
+// A burst, beside the same datagrams one at a time on a copy of the table. Now and then a list is too short or too long, a length is any number,
+// or the table is damaged.
+static void burst_step(void) {
+    enum { ROOM = COGHAMMER_BURST + 4 };
+    static uint8_t buffer[ROOM * LONGEST], signers[ROOM * 64 + 1], addresses[ROOM * COGHAMMER_PACKED_ADDRESS + 1], numbers[ROOM + 1], told[ROOM + 1], wide[256];
+    static size_t lengths[ROOM + 1];
+    static uint16_t ports[ROOM + 1];
+    static uint64_t millis[ROOM + 1], times[ROOM + 1];
+    size_t count = chance(80) ? below(COGHAMMER_BURST + 1) : below(ROOM), total = 0, len = size;
+    for (size_t i = 0; i < count; i++) {
+        peer *p = &peers[below(PEERS)];
+        if (!make_datagram((unsigned)(chance(50) ? 2 : 1 + below(6)), p)) wire_len = below(LONGEST);
+        if (chance(20)) mutate_datagram();
+        if (chance(2)) wire_len = 0;
+        memcpy(buffer + total, wire, wire_len);
+        total += lengths[i] = wire_len;
+        memcpy(signers + 64 * i, p->key, 64);
+        if (chance(5)) memset(signers + 64 * i, 0, 64);
+        addresses[17 * i] = chance(95) ? (uint8_t)p->len : (uint8_t)any();
+        memcpy(addresses + 17 * i + 1, p->address, 16);
+        ports[i] = (uint16_t)(p->udp ^ chance(3));
+        millis[i] = later();
+        times[i] = unix_time + chance(5);
+    }
+    fill(numbers, sizeof numbers);
+
+    // how long each list is lent: numbers, buffer, lengths, signers, addresses, ports, both clocks
+    size_t lent_as[8] = {count, total, count, 64 * count, 17 * count, count, count, count};
+    if (chance(20)) {
+        size_t *one = &lent_as[below(8)];
+        *one = *one && chance(50) ? *one - 1 : *one + 1;
+    }
+    if (count && chance(3)) lengths[below(count)] += chance(50) ? (size_t)any() : 1;
+    unsigned __int128 sum = 0;
+    for (size_t i = 0; i < lent_as[2]; i++) sum += lengths[i];
+    size_t n = lent_as[2];
+    bool whole = n <= COGHAMMER_BURST && sum == lent_as[1] && lent_as[3] == 64 * n && lent_as[4] == 17 * n && lent_as[0] == n && lent_as[5] == n
+                 && lent_as[6] == n && lent_as[7] == n;
+
+    uint8_t *memory = table;
+    if (chance(20)) {
+        memory = memcpy(any_table, table, MOST);
+        any_table[chance(50) ? below(48) : below(size)] ^= (uint8_t)(1 + below(255));
+        if (chance(10)) len = below(MOST);
+    }
+    uint64_t number = call(burst, (lent[10]){{&counters, sizeof counters, &next_counters}, {memory, len, next_table}, {numbers, lent_as[0], told},
+                                             {buffer, lent_as[1], NULL}, {lengths, n * sizeof lengths[0], NULL}, {signers, lent_as[3], NULL},
+                                             {addresses, lent_as[4], NULL}, {ports, lent_as[5] * 2, NULL}, {millis, lent_as[6] * 8, NULL},
+                                             {times, lent_as[7] * 8, NULL}},
+                           NULL);
+    check(number == (whole ? 0 : 28), "a burst gave another number");
+    bursts[!whole]++;
+    if (!whole) {
+        check(memcmp(numbers, told, lent_as[0]) == 0 && memcmp(memory, next_table, len) == 0, "a refused burst wrote");
+        check(memcmp(&counters, &next_counters, sizeof counters) == 0, "a refused burst was counted");
+        return;
+    }
+    static uint8_t one_by_one[MOST];
+    memcpy(one_by_one, memory, len);
+    for (size_t i = 0, at = 0; i < n; at += lengths[i++]) {
+        memcpy(wide, addresses + 17 * i + 1, 16);
+        bool empty = true;
+        for (int k = 0; k < 64; k++) empty = empty && !signers[64 * i + (size_t)k];
+        uint32_t code = coghammer_datagram(&counters, one_by_one, len, (coghammer_millis){millis[i]}, (coghammer_unix){times[i]}, wide, addresses[17 * i], ports[i], signers + 64 * i, empty ? 0 : 64,
+                                           buffer + at, lengths[i]);
+        check(COGHAMMER_NUMBER(code) == told[i], "a datagram in a burst has another number than by itself");
+        reached[told[i]]++;
+    }
+    check(memcmp(one_by_one, next_table, len) == 0, "a burst left another table than its datagrams by themselves");
+    check(memcmp(&counters, &next_counters, sizeof counters) == 0, "a burst was counted otherwise than its datagrams by themselves");
+    if (memory != table) return;
+    memcpy(table, next_table, size);
+    now = 0;
+    for (int i = 32; i < 40; i++) now = now << 8 | table[i];
+}
+
 // The same calls on a table with some bytes changed, mostly where a count, a flag or a time stands, or of another length.
 static void mutated_step(void) {
     static const size_t places[] = {0, 64, 68, 85, 93, 101, 102, 110};
@@ -644,7 +728,8 @@ int main(int argc, char **argv) {
         tables++;
         for (size_t steps = size > 100000 ? 30 : 400; steps; steps--) {
             unsigned what = (unsigned)below(100);
-            if (what < 75) sound_step();
+            if (what < 70) sound_step();
+            else if (what < 75) burst_step();
             else if (what < 88) mutated_step();
             else if (what < 93) random_step();
             else if (what < 96) boot_list();
@@ -654,6 +739,7 @@ int main(int argc, char **argv) {
     } while ((double)(t.tv_sec - start.tv_sec) + (double)(t.tv_nsec - start.tv_nsec) / 1e9 < seconds);
     printf("counted calls by answer:");
     for (int i = 0; i < 19; i++) printf(" %d: %" PRIu64 "%s", i, reached[i], i < 18 ? "," : "\n");
+    printf("bursts: %" PRIu64 " whole, %" PRIu64 " refused\n", bursts[0], bursts[1]);
     printf("boot lists read by end: 0: %" PRIu64 ", 19: %" PRIu64 ", 22: %" PRIu64 "\n", ends[0], ends[19], ends[22]);
     printf("seed %" PRIu64 ": %" PRIu64 " calls on %u tables, nothing failed\n", seed, calls, tables);
     return 0;

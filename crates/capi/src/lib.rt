@@ -17,6 +17,9 @@ ghost use Rattle.packet_join.specs.Join as joining;
 ghost use Rattle.packet_reply.specs.Reply.{replyCount, replyPart};
 ghost use Rattle.table.specs.Init.{initAnswer, initTable};
 ghost use Rattle.counters.specs.Counters.{raised, cleared};
+ghost use Rattle.counters.specs.History.{counted};
+ghost use Rattle.call_burst.specs.Burst.{burstOf, burstNumber, numbersOf, tableAfter};
+ghost use Rattle.call_burst.specs.Burst as bursts;
 ghost use Rattle.closest_nodes.specs.Listing.{listed, listAfter};
 ghost use Rattle.capi_codes.specs.Codes.{numberIn, receivedCode, listedCode, writtenCode, seqOf};
 ghost use Rattle.capi_packet.specs.Fields.{readNumber, fieldsAfter};
@@ -116,6 +119,43 @@ pub extern "C" fn coghammer_closest(list: &mut [Node], table: &[u8], target: &[u
 {
     let answer = discv4::closest(list, table, target);
     capi_codes::listed_code(answer)
+}
+
+// Up to 32 datagrams that came, end to end in `buffer` by `lengths`; for each a signer's key of 64 bytes, all zeros where the signature
+// recovers none, an address of 17 (its length, and 16 bytes), a UDP port and the two clocks. Each one's answer number goes into `numbers` and
+// is counted. The answer number of the burst is not: 0, or 28 before anything is handled where the lists don't fit together.
+#[no_mangle]
+pub extern "C" fn coghammer_burst(
+    counters: &mut Counters,
+    table: &mut [u8],
+    numbers: &mut [u8],
+    buffer: &[u8],
+    lengths: &[usize],
+    signers: &[u8],
+    addresses: &[u8],
+    ports: &[u16],
+    millis: &[u64],
+    unix: &[u64],
+) -> u8
+    ensures { λ r. ⌜ r ≡ burstNumber (burstOf (now (buffer .entry)) (now (lengths .entry)) (now (signers .entry)) (now (addresses .entry)) (now (ports .entry)) (now (millis .entry)) (now (unix .entry))) (length (now (numbers .entry))) ⌝ }
+    ensures { λ r. ⌜ now (table .exit) ≡ tableAfter (now (table .entry)) (burstOf (now (buffer .entry)) (now (lengths .entry)) (now (signers .entry)) (now (addresses .entry)) (now (ports .entry)) (now (millis .entry)) (now (unix .entry))) (length (now (numbers .entry))) ⌝ }
+    ensures { λ r. ⌜ now (numbers .exit) ≡ bursts.listAfter (now (table .entry)) (burstOf (now (buffer .entry)) (now (lengths .entry)) (now (signers .entry)) (now (addresses .entry)) (now (ports .entry)) (now (millis .entry)) (now (unix .entry))) (now (numbers .entry)) ⌝ }
+    ensures { λ r. ⌜ now (counters .exit) ≡ counted (now (counters .entry)) (numbersOf (now (table .entry)) (burstOf (now (buffer .entry)) (now (lengths .entry)) (now (signers .entry)) (now (addresses .entry)) (now (ports .entry)) (now (millis .entry)) (now (unix .entry))) (length (now (numbers .entry)))) ⌝ }
+{
+    let done = counted_burst::burst_with(
+        *counters,
+        table,
+        numbers,
+        buffer,
+        lengths,
+        signers,
+        addresses,
+        ports,
+        millis,
+        unix,
+    );
+    *counters = done.counters;
+    done.number
 }
 
 // ---- what a table tells. Where the answer number isn't 0, nothing is written.

@@ -3,14 +3,14 @@
 use Prim.Native.Nat.{ℕ, _<_}
 use mathlib.Core.Path.{_≡_}
 use mathlib.Core.Bool.{Bool, true, false, cond}
-use mathlib.Core.List.{List, [], _∷_}
+use mathlib.Core.List.{List, [], _∷_, _++_}
 use Rattle.octets.specs.Octets.{Bytes}
 use Rattle.lists.specs.Lists.{All}
 use Rattle.keccak.specs.Sponge.{keccak256}
 use Rattle.table.specs.Init.{initAnswer, initTable}
 use Rattle.call_history.specs.Model.{Env, Call, datagram, pingSent, sweep, closest, fresh, answers, run}
 use Rattle.call_history.specs.Keccak.{withKeccak}
-use Rattle.call_history.specs.Chain.{IsCall, answersOn, bytesAfterAll}
+use Rattle.call_history.specs.Chain.{IsCall}
 use Rattle.call_history.specs.Demand3.{Demand3}
 use Rattle.call_model.specs.Calls.{answerOn, bytesAfter}
 use Rattle.call_model.specs.Reading.{reading}
@@ -19,8 +19,10 @@ use Rattle.call_answer.specs.Answer.{numberOf}
 use Rattle.call_datagram.specs.Received.{received}
 use Rattle.counters.specs.declared.Counters.{Counters}
 use Rattle.counters.specs.Counters.{raised, cleared, countOf}
-use Rattle.counters.specs.History.{timesOf, capped}
+use Rattle.counters.specs.History.{counted, timesOf, capped}
 use Rattle.closest_nodes.specs.Listing.{listed}
+use Rattle.call_burst.specs.Burst.{Burst, IsBurst, callsOf, numbersOf}
+use Rattle.call_burst.specs.Burst as bursts
 
 -- the answer number of each call on a table's bytes
 abbrev pub answerNumber : Bytes → Call → ℕ
@@ -46,38 +48,79 @@ isCounted (closest target room) = false
 abbrev pub countersAfter : Counters → Bytes → Call → Counters
 countersAfter k s c = cond (isCounted c) (raised k (answerNumber s c)) k
 
--- the counters after a list of calls
-abbrev pub countersAfterAll : Counters → Bytes → List Call → Counters
-countersAfterAll k s [] = k
-countersAfterAll k s (c ∷ cs) = countersAfterAll (countersAfter k s c) (tableAfter s c) cs
-
 -- the answer numbers of the counted calls of a list
 abbrev pub countedAnswers : Bytes → List Call → List ℕ
 countedAnswers s [] = []
 countedAnswers s (c ∷ cs) = cond (isCounted c) (answerNumber s c ∷ countedAnswers (tableAfter s c) cs) (countedAnswers (tableAfter s c) cs)
 
+-- ---- the public calls: one of those above, or a burst with the length of the lent list of numbers
+
+pub data PublicCall : Type 0 where
+  single : Call → PublicCall
+  burst : Burst → ℕ → PublicCall
+
+-- the calls that a public call counts as: "Demand 3 counts each datagram as its own call, and none of a burst refused with 28"
+abbrev pub callsMade : PublicCall → List Call
+callsMade (single c) = c ∷ []
+callsMade (burst b room) = callsOf b room
+
+abbrev pub allMade : List PublicCall → List Call
+allMade [] = []
+allMade (p ∷ ps) = callsMade p ++ allMade ps
+
+-- the numbers that it tells, a burst in its list; the table's bytes and the counters that it leaves
+abbrev pub numbersTold : Bytes → PublicCall → List ℕ
+numbersTold s (single c) = answerNumber s c ∷ []
+numbersTold s (burst b room) = numbersOf s b room
+
+abbrev pub tableLeft : Bytes → PublicCall → Bytes
+tableLeft s (single c) = tableAfter s c
+tableLeft s (burst b room) = bursts.tableAfter s b room
+
+abbrev pub countersLeft : Counters → Bytes → PublicCall → Counters
+countersLeft k s (single c) = countersAfter k s c
+countersLeft k s (burst b room) = counted k (numbersOf s b room)
+
+-- the same of a list of public calls
+abbrev pub allTold : Bytes → List PublicCall → List ℕ
+allTold s [] = []
+allTold s (p ∷ ps) = numbersTold s p ++ allTold (tableLeft s p) ps
+
+abbrev pub tableLeftAll : Bytes → List PublicCall → Bytes
+tableLeftAll s [] = s
+tableLeftAll s (p ∷ ps) = tableLeftAll (tableLeft s p) ps
+
+abbrev pub countersLeftAll : Counters → Bytes → List PublicCall → Counters
+countersLeftAll k s [] = k
+countersLeftAll k s (p ∷ ps) = countersLeftAll (countersLeft k s p) (tableLeft s p) ps
+
+-- its arguments are values of their types
+abbrev pub IsPublicCall : PublicCall → Type 0
+IsPublicCall (single c) = IsCall c
+IsPublicCall (burst b room) = IsBurst b
+
 -- "After any run since clearing, a count is the number of such calls with that answer, or 4,294,967,295 if more.": the counters are cleared
 -- where the table is `s`, and then the calls are made
-abbrev pub CountsAfter : Bytes → List Call → Type 0
-CountsAfter s calls = (n : ℕ) → n < 22 → countOf (countersAfterAll cleared s calls) n ≡ capped (timesOf n (countedAnswers s calls))
+abbrev pub CountsAfter : Bytes → List PublicCall → Type 0
+CountsAfter s calls = (n : ℕ) → n < 22 → countOf (countersLeftAll cleared s calls) n ≡ capped (timesOf n (countedAnswers s (allMade calls)))
 
 -- of any bytes, sound or not, and every list of calls
 abbrev pub CountsKept : Type 0
-CountsKept = (s : Bytes) (calls : List Call) → CountsAfter s calls
+CountsKept = (s : Bytes) (calls : List PublicCall) → CountsAfter s calls
 
--- a list of calls on a table `s`, where `e` is the rules for its own hash and bucket count
-pub record RunKeeps (e : Env) (s : Bytes) (calls : List Call) : Type 0 where
+-- a list of public calls on a table `s`, where `e` is the rules for its own hash and bucket count
+pub record RunKeeps (e : Env) (s : Bytes) (calls : List PublicCall) : Type 0 where
   -- "each call's answer number is theirs"
-  pub numbers : answersOn answerNumber tableAfter s calls ≡ answers e (fresh e) calls
+  pub numbers : allTold s calls ≡ answers e (fresh e) (allMade calls)
   -- "the table's bytes after the list are the one form of what they give"
-  pub bytes : bytesAfterAll answerNumber tableAfter s calls ≡ encode (e .own) (run e calls .table)
+  pub bytes : tableLeftAll s calls ≡ encode (e .own) (run e (allMade calls) .table)
   -- the sentences of demand 3, of the rules' table and answers
-  pub demand : Demand3 e calls
+  pub demand : Demand3 e (allMade calls)
   -- the counters, cleared where the table is fresh
   pub counts : CountsAfter s calls
 
--- for every memory, own key and bucket count that `init` accepts, and every list of calls
+-- for every memory, own key and bucket count that `init` accepts, and every list of public calls
 abbrev pub LibraryKeeps : Type 0
 LibraryKeeps =
-    (memory key : Bytes) (count : ℕ) → initAnswer memory key count ≡ 0 → (calls : List Call) → All IsCall calls
+    (memory key : Bytes) (count : ℕ) → initAnswer memory key count ≡ 0 → (calls : List PublicCall) → All IsPublicCall calls
     → RunKeeps (withKeccak reading (keccak256 key) count) (initTable memory key count) calls

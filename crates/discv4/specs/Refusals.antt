@@ -12,6 +12,7 @@ use Rattle.call_model.specs.AnyBytes.{numbersOf}
 use Rattle.closest_nodes.specs.Listing.{ClosestKept}
 use Rattle.printout_table.specs.Told.{ToldKept}
 use Rattle.call_key.specs.Kept.{KeyKept}
+use Rattle.call_burst.specs.Burst.{BurstKept}
 use Rattle.discv4.specs.Library.{answerNumber, tableAfter}
 
 pub record RefusalsKeep : Type 0 where
@@ -20,6 +21,8 @@ pub record RefusalsKeep : Type 0 where
   pub refused-unchanged : (s : Bytes) (c : Call) → (answerNumber s c ≡ 0 → ⊥) → tableAfter s c ≡ s
   -- the list that is lent to `closest`
   pub closest-list : ClosestKept
+  -- `burst`: table, list and counters
+  pub burst : BurstKept
   -- `init`; and that a fresh table is sound
   pub init : InitKept
   -- `write_ping`, .., `write_enr_response` and `join`: each answers `written` and leaves `writtenIn` of its own value

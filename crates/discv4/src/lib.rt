@@ -1,12 +1,13 @@
 // The public library. Each function's contract stands where the function does; none has a precondition.
 
 // ---- the table's calls
-// `init` makes lent bytes a fresh table. `datagram`, `ping_sent` and `sweep` count their answers in lent counters, `closest` fills a lent
-// list. Callers inside the repository have forms that take counters or list by value: crates counted_datagram,
-// counted_ping_sent, counted_sweep and closest.
+// `init` makes lent bytes a fresh table. `datagram`, `ping_sent` and `sweep` count their answers in lent counters, `burst` those of its
+// datagrams, `closest` fills a lent list. Callers inside the repository have forms that take counters or list by value: crates counted_datagram,
+// counted_ping_sent, counted_sweep, counted_burst and closest.
 
 pub use closest::closest;
 pub use closest_nodes::Listed;
+pub use counted_burst::burst;
 pub use counted_datagram::datagram;
 pub use counted_ping_sent::ping_sent;
 pub use counted_sweep::sweep;

@@ -67,3 +67,6 @@ pub const UNREADABLE: u8 = 21;
 
 // A line of a boot list that isn't an enode line.
 pub const NOT_ENODE: u8 = 22;
+
+// A burst of more than 32 datagrams, of lengths that don't sum to its buffer, or of lists that differ in length.
+pub const NOT_WHOLE: u8 = 28;

@@ -14,6 +14,7 @@
 use std::net::{IpAddr, SocketAddr};
 
 mod boot;
+mod burst;
 mod number;
 mod packet;
 #[allow(unsafe_code)]
@@ -21,6 +22,7 @@ mod sys;
 pub mod write;
 
 pub use boot::{enode_text, read_enodes, write_enodes, End, ENODE_LINE};
+pub use burst::{Burst, MOST};
 pub use number::Number;
 pub use packet::{Nodes, Packet};
 

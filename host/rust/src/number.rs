@@ -5,6 +5,7 @@ use std::fmt;
 
 /// An answer number of document 01 or of a request, not 0 where it is an error. The lowest that applies is
 /// given. Displayed as the number and its words: `15: the pong came too late`.
+#[repr(transparent)]
 #[derive(Clone, Copy, PartialEq, Eq, PartialOrd, Ord, Hash)]
 pub struct Number(pub u8);
 
@@ -32,36 +33,38 @@ impl Number {
     pub const NOT_WRITABLE: Number = Number(20);
     pub const UNREADABLE: Number = Number(21);
     pub const NOT_ENODE: Number = Number(22);
+    pub const NOT_WHOLE: Number = Number(28);
 
-    const TEXTS: [&'static str; 23] = [
-        "done",
-        "the table's memory is damaged or of the wrong size",
-        "the box's clock went back",
-        "the datagram is too short or too long",
-        "the hash does not fit",
-        "no key of 64 bytes",
-        "no address of 4 or 16 bytes",
-        "the node's own key",
-        "a packet of unknown type",
-        "the packet's data is broken",
-        "a field is missing or wrong",
-        "the packet has expired",
-        "too near to the own node for a table of this size",
-        "the sender has not proved its address",
-        "a pong that nobody asked for",
-        "the pong came too late",
-        "the node is known at another address",
-        "a ping to the node is still out",
-        "the waiting line is full",
-        "the room is too small",
-        "the value can't be written",
-        "the log's line is not readable",
-        "no enode line",
+    const TEXTS: [(Number, &'static str); 24] = [
+        (Number::DONE, "done"),
+        (Number::UNSOUND, "the table's memory is damaged or of the wrong size"),
+        (Number::CLOCK_BACK, "the box's clock went back"),
+        (Number::WRONG_LENGTH, "the datagram is too short or too long"),
+        (Number::WRONG_HASH, "the hash does not fit"),
+        (Number::WRONG_KEY, "no key of 64 bytes"),
+        (Number::WRONG_ADDRESS, "no address of 4 or 16 bytes"),
+        (Number::OWN_KEY, "the node's own key"),
+        (Number::UNKNOWN_TYPE, "a packet of unknown type"),
+        (Number::BROKEN_DATA, "the packet's data is broken"),
+        (Number::WRONG_FIELD, "a field is missing or wrong"),
+        (Number::EXPIRED, "the packet has expired"),
+        (Number::NOT_KEPT, "too near to the own node for a table of this size"),
+        (Number::NOT_VERIFIED, "the sender has not proved its address"),
+        (Number::NOT_AWAITED, "a pong that nobody asked for"),
+        (Number::LATE, "the pong came too late"),
+        (Number::HELD_ELSEWHERE, "the node is known at another address"),
+        (Number::PING_OUT, "a ping to the node is still out"),
+        (Number::LINE_FULL, "the waiting line is full"),
+        (Number::SHORT_ROOM, "the room is too small"),
+        (Number::NOT_WRITABLE, "the value can't be written"),
+        (Number::UNREADABLE, "the log's line is not readable"),
+        (Number::NOT_ENODE, "no enode line"),
+        (Number::NOT_WHOLE, "the burst's lists don't fit together"),
     ];
 
     /// The number in words, as docs/NUMBERS.md has them.
     pub fn text(self) -> &'static str {
-        Self::TEXTS.get(usize::from(self.0)).copied().unwrap_or("no answer number")
+        Self::TEXTS.iter().find(|(number, _)| *number == self).map_or("no answer number", |(_, text)| text)
     }
 }
 

@@ -4,9 +4,9 @@
 //! read or write is lent for the length of the call; a `&mut` is distinct from every other argument by
 //! Rust's own rule; no function keeps a pointer; and each is proved to end, not to panic, and to read and
 //! write inside what it is lent, for any contents. An empty slice passes as a pointer that isn't null.
-//! The clocks pass as the numbers that they are.
+//! The clocks and the answer numbers pass as the numbers that they are.
 
-use crate::{Counters, MonotonicMillis, Node, UnixSeconds};
+use crate::{Burst, Counters, MonotonicMillis, Node, Number, UnixSeconds};
 
 extern "C" {
     fn coghammer_init(table: *mut u8, table_len: usize, key: *const u8, key_len: usize, buckets: usize)
@@ -53,6 +53,27 @@ extern "C" {
         target: *const u8,
         target_len: usize,
     ) -> u32;
+    fn coghammer_burst(
+        counters: *mut Counters,
+        table: *mut u8,
+        table_len: usize,
+        numbers: *mut Number,
+        numbers_len: usize,
+        buffer: *const u8,
+        buffer_len: usize,
+        lengths: *const usize,
+        lengths_len: usize,
+        signers: *const u8,
+        signers_len: usize,
+        addresses: *const u8,
+        addresses_len: usize,
+        ports: *const u16,
+        ports_len: usize,
+        millis: *const MonotonicMillis,
+        millis_len: usize,
+        unix: *const UnixSeconds,
+        unix_len: usize,
+    ) -> u8;
     fn coghammer_clear(counters: *mut Counters);
     fn coghammer_state(table: *const u8, table_len: usize, told: *mut [u64; 4]) -> u8;
     fn coghammer_print(
@@ -247,6 +268,35 @@ pub fn closest(list: &mut [Node], table: &[u8], target: &[u8]) -> u32 {
             table.len(),
             target.as_ptr(),
             target.len(),
+        )
+    }
+}
+
+pub fn burst(counters: &mut Counters, table: &mut [u8], numbers: &mut [Number], burst: &Burst) -> u8 {
+    let Burst { buffer, lengths, signers, addresses, ports, millis, unix } = burst;
+    // SAFETY: counters, table and numbers are lent for writing, the lists are read; each length counts the
+    // elements of its own list, and the lists may be of any lengths.
+    unsafe {
+        coghammer_burst(
+            counters,
+            table.as_mut_ptr(),
+            table.len(),
+            numbers.as_mut_ptr(),
+            numbers.len(),
+            buffer.as_ptr(),
+            buffer.len(),
+            lengths.as_ptr(),
+            lengths.len(),
+            signers.as_ptr(),
+            signers.len(),
+            addresses.as_ptr(),
+            addresses.len(),
+            ports.as_ptr(),
+            ports.len(),
+            millis.as_ptr(),
+            millis.len(),
+            unix.as_ptr(),
+            unix.len(),
         )
     }
 }

@@ -13,6 +13,7 @@
 //! | [`bucket`] | a table's entry and bucket, and what the rules do to one bucket |
 //! | [`table`] | the table and its four calls, the counters |
 //! | [`layout`] | the table's bytes, when they are sound, and the calls on them |
+//! | [`burst`] | a burst of datagrams, each a call of its own |
 //! | [`log`] | log lines, answers, printout: the replay |
 //! | [`enode`] | boot lists: enode lines, read and written |
 //! | [`calls`] | sequences of calls as values, to compare another implementation call by call |
@@ -27,6 +28,7 @@ use std::io::{self, BufRead, BufReader};
 use std::process::ExitCode;
 
 pub mod bucket;
+pub mod burst;
 pub mod calls;
 pub mod enode;
 pub mod generator;
