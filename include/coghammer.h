@@ -8,7 +8,8 @@
 // a table leaves bytes that no call wrote; the next call that meets them answers COGHAMMER_UNSOUND and touches nothing.
 //
 // Words. A bucket holds up to sixteen seats, in the order in which their nodes were last put at the tail: the first is the head. Behind them up to
-// four nodes stand in its waiting line: those that were pinged and have not answered yet, and those that answered while all seats were taken.
+// four nodes stand in its waiting line: those that were pinged and have not answered yet, and those that answered while there was no seat for them. Of the
+// seats at most two have 4-byte addresses with the same first three bytes (a range).
 //
 // Forms. A key is the 64 bytes of a secp256k1 public key, x then y, big-endian, without the 04 in front. A signature is 65 bytes: r, s, and the recovery
 // number 0 to 3. A hash is a Keccak-256, 32 bytes. An address is 4 or 16 bytes as they stand in an IP packet. Ports are numbers of the host: 30303, not
@@ -172,16 +173,17 @@ enum {
 enum {
     COGHAMMER_NO_PING_DUE = 0,
     COGHAMMER_PING_DUE = 1,
-    COGHAMMER_TAIL = 0,   // it had a seat, and is now at the tail
-    COGHAMMER_SEATED = 1, // it took a free seat
-    COGHAMMER_WAITS = 2   // all seats are taken: ping the head, if no ping is out to it (coghammer_head)
+    COGHAMMER_TAIL = 0,      // it had a seat, and is now at the tail
+    COGHAMMER_SEATED = 1,    // it took a free seat
+    COGHAMMER_WAITS = 2,     // all seats are taken: ping the head, if no ping is out to it (coghammer_head)
+    COGHAMMER_RANGE_FULL = 3 // it waits because its range has two seats: nothing is due
 };
 
 // A ping goes out to the node with this key at this endpoint; hash: the first 32 bytes of the ping's datagram, which its pong names. Call it before the
 // ping is sent, and send it only on 0. Counted. The answer number: 0, 1, 2, 4, 5, 6, 7, 12, 16, 17 or 18.
 uint8_t coghammer_ping_sent(coghammer_counters *counters, uint8_t *table, size_t table_len, coghammer_millis clock, const uint8_t *key, size_t key_len, const uint8_t *address, size_t address_len, uint16_t udp, uint16_t tcp, const uint8_t *hash, size_t hash_len);
 
-// Removes nodes that did not answer a ping in time and nodes of the waiting line whose proof has expired, and gives free seats to those that wait. Only
+// Removes nodes that did not answer a ping in time and nodes of the waiting line whose proof has expired, and gives free seats to those that wait, up to two of a range. Only
 // a sweep removes nodes. Counted. The answer number: 0, 1 or 2.
 uint8_t coghammer_sweep(coghammer_counters *counters, uint8_t *table, size_t table_len, coghammer_millis clock);
 
@@ -230,7 +232,7 @@ enum {
     COGHAMMER_HEAD
 };
 
-// The first entry of the key's bucket, for the sender of a pong that waits, and its ping state; zeros where there is no entry. The answer number: 0,
+// The first entry of the key's bucket, for the sender of a pong that waits for a seat, and its ping state; zeros where there is no entry. The answer number: 0,
 // 1, 5, 7 or 12.
 uint8_t coghammer_head(const uint8_t *table, size_t table_len, const uint8_t *key, size_t key_len, coghammer_node *node, uint64_t ping[COGHAMMER_HEAD]);
 

@@ -12,6 +12,7 @@ enum { PLACES = 20, ENTRIES = 16, BUCKETS = 16, BUCKET = 2862, BATCH = 16, TURNS
 static uint8_t keys[PLACES][64], own_key[64];
 static uint8_t full[COGHAMMER_TABLE_SIZE(BUCKETS)], table[COGHAMMER_TABLE_SIZE(BUCKETS)];
 static const uint8_t address[4] = {192, 0, 2, 7};
+static uint8_t at[PLACES][4]; // where each key is, in a range of its own
 static uint8_t hash[32];
 
 static double now(void) {
@@ -31,7 +32,7 @@ static void fill(int out) {
         uint8_t *e = bucket + 2 + k * 143;
         memcpy(e, keys[k], 64);
         e[64] = 4;
-        memcpy(e + 65, address, 4);
+        memcpy(e + 65, at[k], 4);
         e[82] = e[84] = 77;
         e[92] = 5;
         e[93] = 1;
@@ -50,6 +51,7 @@ static void find_keys(void) {
         coghammer_keccak256(key, 64, h);
         if ((own[0] ^ h[0]) & 0x80) memcpy(keys[found++], key, 64);
     }
+    for (int k = 0; k < PLACES; k++) memcpy(at[k], (uint8_t[4]){192, 0, (uint8_t)k, 7}, 4);
 }
 
 static size_t joined(uint8_t *packet, const uint8_t *body, uint32_t code) {
@@ -79,8 +81,8 @@ static void measure(const char *name, int out, const uint8_t *packet, size_t len
         memcpy(table, full, sizeof table);
         start = now();
         for (int i = 0; i < BATCH; i++) {
-            uint8_t number = packet ? COGHAMMER_NUMBER(coghammer_datagram(&counters, table, sizeof table, (coghammer_millis){20}, (coghammer_unix){0}, address, 4, 77, keys[i], 64, packet, len))
-                                    : coghammer_ping_sent(&counters, table, sizeof table, (coghammer_millis){20}, keys[i], 64, address, 4, 77, 77, hash, 32);
+            uint8_t number = packet ? COGHAMMER_NUMBER(coghammer_datagram(&counters, table, sizeof table, (coghammer_millis){20}, (coghammer_unix){0}, at[i], 4, 77, keys[i], 64, packet, len))
+                                    : coghammer_ping_sent(&counters, table, sizeof table, (coghammer_millis){20}, keys[i], 64, at[i], 4, 77, 77, hash, 32);
             if (number) printf("%s: answer %d\n", name, number), exit(1);
         }
         calls = best_of(calls, (now() - start) / BATCH);
@@ -105,7 +107,7 @@ static void measure_burst(const uint8_t *packet, size_t len) {
         lengths[i] = len;
         memcpy(signers + 64 * i, keys[i % ENTRIES], 64);
         addresses[COGHAMMER_PACKED_ADDRESS * i] = 4;
-        memcpy(addresses + COGHAMMER_PACKED_ADDRESS * i + 1, address, 4);
+        memcpy(addresses + COGHAMMER_PACKED_ADDRESS * i + 1, at[i % ENTRIES], 4);
         ports[i] = 77;
         millis[i] = (coghammer_millis){20};
         times[i] = (coghammer_unix){0};
@@ -114,7 +116,7 @@ static void measure_burst(const uint8_t *packet, size_t len) {
         memcpy(table, full, sizeof table);
         double start = now();
         for (int i = 0; i < COUNT; i++)
-            if (COGHAMMER_NUMBER(coghammer_datagram(&counters, table, sizeof table, (coghammer_millis){20}, (coghammer_unix){0}, address, 4, 77, signers + 64 * i, 64, buffer + i * len, len))) exit(1);
+            if (COGHAMMER_NUMBER(coghammer_datagram(&counters, table, sizeof table, (coghammer_millis){20}, (coghammer_unix){0}, at[i % ENTRIES], 4, 77, signers + 64 * i, 64, buffer + i * len, len))) exit(1);
         many = best_of(many, now() - start);
         memcpy(table, full, sizeof table);
         start = now();

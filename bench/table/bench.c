@@ -57,6 +57,7 @@ static size_t fill(int count, int out) {
             memcpy(e, keys[b][k], 64);
             e[64] = 4;
             e[65] = 192;
+            e[67] = (uint8_t)k; // each in a range of its own
             e[82] = e[84] = 77;
             e[92] = 5;
             e[93] = 1;

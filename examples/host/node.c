@@ -120,7 +120,8 @@ static void send_record(node *n, const coghammer_node *to, const uint8_t *reques
 
 // ---- receiving
 
-// A node waits because its bucket is full: the bucket's first entry has to show that it is still there.
+// A node waits because no seat is free: the bucket's first entry has to show that it is still there. One that waits because its range has two seats
+// asks for nothing.
 static void ping_head(node *n, const uint8_t key[64]) {
     coghammer_node head;
     uint64_t ping[COGHAMMER_HEAD];
@@ -200,8 +201,9 @@ void node_sweep(node *n) {
 
 // ---- opening and closing
 
-int socket_open(coghammer_endpoint *here) {
-    struct sockaddr_in a = {.sin_family = AF_INET, .sin_addr.s_addr = htonl(INADDR_LOOPBACK)};
+int socket_open(unsigned number, coghammer_endpoint *here) {
+    // 127.0.0.1 to 127.0.15.1, then 127.0.0.2 and on: at most two nodes of a range get seats in a bucket
+    struct sockaddr_in a = {.sin_family = AF_INET, .sin_addr.s_addr = htonl(INADDR_LOOPBACK + number % 16 * 256 + number / 16)};
     socklen_t size = sizeof a;
     int fd = socket(AF_INET, SOCK_DGRAM, 0);
     if (fd < 0) fail("socket");
@@ -215,7 +217,7 @@ int socket_open(coghammer_endpoint *here) {
 void node_open(node *n, const char *folder, unsigned number) {
     memset(n, 0, sizeof *n);
     if (!first_millis) first_millis = clock_millis().millis;
-    n->socket = n->answer_by = socket_open(&n->self.endpoint);
+    n->socket = n->answer_by = socket_open(number, &n->self.endpoint);
     identity_new(&n->id);
     memcpy(n->self.key, n->id.key, 64);
     n->record_size = write_record(&n->id, n->self.endpoint.address, n->self.endpoint.udp, n->record);

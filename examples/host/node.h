@@ -29,7 +29,7 @@ typedef struct {
     unsigned full_replies; // replies of 12 nodes and 4
 } node;
 
-// A node on 127.0.0.1 and a port that the system chooses. The clock of all nodes starts with the first one.
+// A node on loopback, at an address by its number and a port that the system chooses. The clock of all nodes starts with the first one.
 void node_open(node *n, const char *folder, unsigned number);
 void node_close(node *n);
 
@@ -43,8 +43,8 @@ bool node_take(int socket, taken *t);
 void node_receive(node *n, taken *t);
 void node_sweep(node *n);
 
-// A UDP socket on 127.0.0.1 and a port that the system chooses, which the endpoint then has.
-int socket_open(coghammer_endpoint *here);
+// A UDP socket at the address of node `number` and a port that the system chooses, which the endpoint then has.
+int socket_open(unsigned number, coghammer_endpoint *here);
 
 // Milliseconds that never go back.
 coghammer_millis clock_millis(void);

@@ -49,12 +49,12 @@ void record_sent(recording *r, coghammer_millis clock, const coghammer_node *to,
 
 // ---- answers to datagrams
 
-// The head of the bucket that a waiting node's key falls into.
-static void put_wait(FILE *file, const uint8_t table[TABLE_SIZE], const uint8_t key[64]) {
+// The head of the bucket that the key of a node that waits for a seat falls into.
+static void put_head(FILE *file, const uint8_t table[TABLE_SIZE], const uint8_t key[64]) {
     coghammer_node head = {0};
     uint64_t ping[COGHAMMER_HEAD] = {0};
     coghammer_head(table, TABLE_SIZE, key, 64, &head, ping);
-    fputs("wait\t", file);
+    fputc('\t', file);
     hex(file, head.key, 8);
     if (ping[COGHAMMER_HEAD_PING_OUT]) fprintf(file, "\t%" PRIu64, ping[COGHAMMER_HEAD_PING_SINCE]);
     else fputs("\tquiet", file);
@@ -76,8 +76,9 @@ void record_rx(recording *r, coghammer_millis clock, coghammer_unix unix_time, c
     fprintf(r->answers, "%u", COGHAMMER_NUMBER(code));
     if (type) fprintf(r->answers, "\t%s", words[type]);
     if (type == 1 && outcome) fputs("\tping", r->answers);
-    if (type == 2 && outcome < 2) fputs(outcome ? "seat" : "tail", r->answers);
-    if (type == 2 && outcome == 2) put_wait(r->answers, table, from->key);
+    static const char *const outcomes[] = {"tail", "seat", "wait", "wait"};
+    if (type == COGHAMMER_PONG) fputs(outcomes[outcome], r->answers);
+    if (type == COGHAMMER_PONG && outcome == COGHAMMER_WAITS) put_head(r->answers, table, from->key);
     fputc('\n', r->answers);
 }
 

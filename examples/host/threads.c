@@ -75,7 +75,7 @@ int main(int argc, char **argv) {
     for (unsigned i = 0; i < OTHERS; i++) node_open(&others[i], argv[1], i + 1);
     coghammer_node to[PORTS] = {shared.self, shared.self};
     ports[0] = shared.socket;
-    ports[1] = socket_open(&to[1].endpoint);
+    ports[1] = socket_open(0, &to[1].endpoint);
     // a receiver looks at the clock now and then, to end
     struct timeval most = {.tv_usec = 20000};
     for (int i = 0; i < PORTS; i++)

@@ -391,6 +391,42 @@ static void calls(void) {
     CHECK(memcmp(counters.counts, wanted, sizeof wanted) == 0);
 }
 
+// In a table of bucket 255 alone: the third of a range waits beside free seats, and takes the seat that a sweep frees. Addresses of 16 bytes have none.
+static void ranges(void) {
+    enum { ONE = COGHAMMER_TABLE_SIZE(1), NODES = 6 };
+    static const uint8_t outcomes[NODES] = {COGHAMMER_SEATED, COGHAMMER_SEATED, COGHAMMER_RANGE_FULL, COGHAMMER_SEATED, COGHAMMER_SEATED, COGHAMMER_SEATED};
+    uint8_t small[ONE], body[LARGEST], datagram[LARGEST], keys[NODES][64] = {{0}}, at[NODES][16] = {{192, 0, 2, 1}, {192, 0, 2, 2}, {192, 0, 2, 3}, {192, 0, 3, 1}};
+    size_t len = datagram_of(datagram, body, coghammer_write_pong(body, LARGEST, address, 4, 3, hash, 32, now_unix, false, 0));
+    coghammer_node node;
+    uint64_t told[COGHAMMER_HELD], ping[COGHAMMER_HEAD];
+    memcpy(at[4], "\0\0\0\0\0\0\0\0\0\0\377\377\300\0\2\4", 16); // 192.0.2.4, IPv4-mapped
+    memcpy(at[5], at[0], 4);                                           // 16 bytes that begin like the first
+    CHECK(coghammer_init(small, ONE, own, 64, 1) == 0);
+    uint8_t name = 0;
+    for (int i = 0; i < NODES; i++) {
+        size_t size = i < 4 ? 4 : 16;
+        uint8_t number;
+        do { // keys of other buckets get 12
+            memset(keys[i], ++name, 64);
+            number = coghammer_ping_sent(&counters, small, ONE, MS(10), keys[i], 64, at[i], size, 1, 1, hash, 32);
+        } while (number == COGHAMMER_NOT_KEPT || number == COGHAMMER_OWN_KEY);
+        CHECK(number == 0);
+        uint32_t code = coghammer_datagram(&counters, small, ONE, MS(10), UNIX(now_unix), at[i], size, 1, keys[i], 64, datagram, len);
+        CHECK(is(code, 0, COGHAMMER_PONG + 256u * outcomes[i]) && COGHAMMER_OUTCOME(code) == outcomes[i]);
+    }
+    CHECK(coghammer_head(small, ONE, keys[2], 64, &node, ping) == 0 && memcmp(node.key, keys[0], 64) == 0);
+    CHECK(coghammer_find(small, ONE, keys[2], 64, &node, told) == 0 && told[COGHAMMER_HELD_AS] == COGHAMMER_HELD_WAITING);
+    CHECK(coghammer_sweep(&counters, small, ONE, MS(10)) == 0);
+    CHECK(coghammer_find(small, ONE, keys[2], 64, &node, told) == 0 && told[COGHAMMER_HELD_AS] == COGHAMMER_HELD_WAITING);
+    CHECK(coghammer_ping_sent(&counters, small, ONE, MS(10), keys[0], 64, at[0], 4, 1, 1, hash, 32) == 0);
+    CHECK(coghammer_sweep(&counters, small, ONE, MS(511)) == 0);
+    CHECK(coghammer_find(small, ONE, keys[2], 64, &node, told) == 0 && told[COGHAMMER_HELD_AS] == COGHAMMER_HELD_SEAT && told[COGHAMMER_HELD_PLACE] == 5);
+    // a third seat of the range, which no call makes: the fourth byte of seat 2's address, 192.0.3.1
+    CHECK(small[512 + 2 + 143 + 67] == 3);
+    small[512 + 2 + 143 + 67] = 2;
+    CHECK(coghammer_sweep(&counters, small, ONE, MS(511)) == COGHAMMER_UNSOUND);
+}
+
 // A burst beside the same datagrams by themselves, and lists that don't fit together.
 static void bursts(void) {
     enum { COUNT = 5 };
@@ -487,6 +523,7 @@ int main(void) {
     neighbors();
     boot_lists();
     calls();
+    ranges();
     bursts();
     unsound();
     printf("%d checks, %d failed\n", checks, failures);

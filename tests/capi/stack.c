@@ -1,4 +1,5 @@
-// The stack that each call needs. Each runs in a thread of its own whose stack was painted; what it overwrote beyond a call of an empty function is printed.
+// The stack that each call needs. Each runs in a thread of its own whose stack was painted; what it overwrote is printed, with the frame that calls it, whose
+// SPARE bytes can't be painted: no figure is below them.
 #include "coghammer.h"
 #include <pthread.h>
 #include <stdio.h>
@@ -9,11 +10,12 @@ enum { STACK = 1 << 20, PAINT = 0xa5, SPARE = 160, PLACES = 20, BUCKETS = 16, BU
 static uint8_t table[COGHAMMER_TABLE_SIZE(BUCKETS)], own[64], keys[PLACES][64], signature[65], hash[32];
 static uint8_t body[COGHAMMER_DATAGRAM_MOST], datagram[COGHAMMER_DATAGRAM_MOST], text[NODES * COGHAMMER_ENODE_LINE];
 static uint8_t packed[NODES * COGHAMMER_PACKED_NODE];
-static const uint8_t address[4] = {192, 0, 2, 7};
+static const uint8_t address[4] = {192, 0, 2, 7}, packed_address[COGHAMMER_PACKED_ADDRESS] = {4, 192, 0, 2, 7};
 static size_t len, text_len = sizeof text;
-static uint64_t fields[COGHAMMER_FIELDS], told[5];
+static uint64_t fields[COGHAMMER_FIELDS], told[5], state_told[COGHAMMER_STATE], printed[1], head_told[COGHAMMER_HEAD], held[COGHAMMER_HELD];
 static coghammer_counters counters;
-static coghammer_node nodes[COGHAMMER_CLOSEST];
+static coghammer_node nodes[COGHAMMER_CLOSEST], node;
+static uint8_t printout[COGHAMMER_PRINTOUT_SIZE(BUCKETS)];
 static const coghammer_millis clock_now = {20};
 static const coghammer_unix date = {0};
 
@@ -31,12 +33,13 @@ static void fill(void) {
         coghammer_keccak256(key, 64, h);
         if (!((h[0] ^ own_hash[0]) & 0x80)) continue;
         memcpy(keys[i], key, 64);
-        uint8_t *e = bucket + 2 + i++ * ENTRY;
+        uint8_t *e = bucket + 2 + i * ENTRY;
         memcpy(e, key, 64);
         e[64] = 4;
         memcpy(e + 65, address, 4);
-        e[82] = 77; // UDP port
-        e[93] = 1;  // proved, at 0
+        e[67] += (uint8_t)i++; // each in a range of its own, the first at `address`
+        e[82] = 77;            // UDP port
+        e[93] = 1;             // proved, at 0
     }
 }
 
@@ -45,7 +48,6 @@ static size_t joined(uint32_t code) {
     return COGHAMMER_VALUE(coghammer_join(datagram, sizeof datagram, signature, 65, body, COGHAMMER_VALUE(code)));
 }
 
-static void empty(void) {}
 static void init(void) {
     static uint8_t other[sizeof table];
     coghammer_init(other, sizeof other, own, 64, BUCKETS);
@@ -63,8 +65,37 @@ static void closest(void) {
     if (COGHAMMER_NUMBER(coghammer_closest(nodes, COGHAMMER_CLOSEST, table, sizeof table, own, 64))) abort();
 }
 static void packet(void) { coghammer_packet(datagram, len, fields); }
+static void node_count(void) {
+    if (coghammer_node_count(datagram, len, fields[COGHAMMER_FIELD_NODES_START], fields[COGHAMMER_FIELD_NODES_LEN]) != NODES) abort();
+}
+static void node_at(void) {
+    coghammer_node_at(datagram, len, fields[COGHAMMER_FIELD_NODES_START], fields[COGHAMMER_FIELD_NODES_LEN], NODES - 1, &node);
+    if (node.endpoint.len != 4) abort();
+}
+static void state(void) {
+    if (coghammer_state(table, sizeof table, state_told)) abort();
+}
+static void print_table(void) {
+    if (coghammer_print(printout, sizeof printout, table, sizeof table, printed)) abort();
+}
+static void head(void) {
+    if (coghammer_head(table, sizeof table, keys[0], 64, &node, head_told)) abort();
+}
+static void find(void) {
+    if (coghammer_find(table, sizeof table, keys[PLACES - 1], 64, &node, held) || held[COGHAMMER_HELD_AS] != COGHAMMER_HELD_WAITING) abort();
+}
+static void burst(void) {
+    uint8_t number[1];
+    if (coghammer_burst(&counters, table, sizeof table, number, 1, datagram, len, &len, 1, keys[0], 64, packed_address, sizeof packed_address, &(uint16_t){77}, 1, &clock_now, 1, &date, 1) || number[0]) abort();
+}
 static void write_ping(void) { coghammer_write_ping(body, sizeof body, address, 4, 1, 2, address, 4, 3, 99, true, 1); }
+static void write_pong(void) { coghammer_write_pong(body, sizeof body, address, 4, 1, hash, 32, 99, true, 1); }
+static void write_find_node(void) { coghammer_write_find_node(body, sizeof body, own, 64, 99); }
+static void write_enr_request(void) { coghammer_write_enr_request(body, sizeof body, 99); }
+static void write_enr_response(void) { coghammer_write_enr_response(body, sizeof body, hash, 32, (const uint8_t[]){0xc0}, 1); }
 static void write_neighbors(void) { coghammer_write_neighbors(body, sizeof body, packed, sizeof packed, 99); }
+static void reply(void) { coghammer_reply_start(COGHAMMER_CLOSEST, coghammer_reply_count(COGHAMMER_CLOSEST) - 1), coghammer_reply_len(COGHAMMER_CLOSEST, 0); }
+static void clear(void) { coghammer_clear(&counters); }
 static void join(void) { coghammer_join(datagram, sizeof datagram, signature, 65, body, 100); }
 static void keccak(void) { coghammer_keccak256(table, sizeof table, hash); }
 static void write_enodes(void) {
@@ -97,8 +128,7 @@ static size_t measure(void (*f)(void)) {
     return used;
 }
 
-static size_t base;
-static void print(const char *name, void (*f)(void)) { printf("| %s | %zu |\n", name, (measure(f) - base + 15) / 16 * 16); }
+static void print(const char *name, void (*f)(void)) { printf("| %s | %zu |\n", name, (measure(f) + 15) / 16 * 16); }
 
 int main(void) {
     stack = aligned_alloc(4096, STACK);
@@ -108,13 +138,17 @@ int main(void) {
         packed[i * COGHAMMER_PACKED_NODE] = 4;
         nodes[i].endpoint.len = 4;
     }
-    base = measure(empty);
     printf("| Call | Bytes of stack |\n|---|---|\n");
     print("`coghammer_init`", init);
     print("`coghammer_write_enodes`", write_enodes);
     print("`coghammer_read_enodes`", read_enodes);
     print("`coghammer_write_ping`", write_ping);
+    print("`coghammer_write_pong`", write_pong);
+    print("`coghammer_write_find_node`", write_find_node);
     print("`coghammer_write_neighbors`", write_neighbors);
+    print("`coghammer_write_enr_request`", write_enr_request);
+    print("`coghammer_write_enr_response`", write_enr_response);
+    print("`coghammer_reply_count`, `_start`, `_len`", reply);
     print("`coghammer_join`", join);
     print("`coghammer_keccak256`", keccak);
     print("`coghammer_ping_sent`", ping_sent);
@@ -125,9 +159,17 @@ int main(void) {
     print("`coghammer_datagram`, a Ping", receive);
     len = joined(coghammer_write_neighbors(body, sizeof body, packed, sizeof packed, 99));
     print("`coghammer_datagram`, a Neighbors", receive);
+    print("`coghammer_burst`, of a Neighbors", burst);
     print("`coghammer_packet`", packet);
+    print("`coghammer_node_count`", node_count);
+    print("`coghammer_node_at`", node_at);
+    print("`coghammer_head`", head);
+    print("`coghammer_find`", find);
+    print("`coghammer_state`", state);
+    print("`coghammer_print`", print_table);
     print("`coghammer_closest`", closest);
     ping_sent(); // which the sweep removes
     print("`coghammer_sweep`", sweep);
+    print("`coghammer_clear`", clear);
     return 0;
 }

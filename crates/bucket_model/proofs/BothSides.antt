@@ -1,12 +1,14 @@
--- Both sides of each line (document 01, P9 and P10), at every time.
+-- Both sides of each line: P9 and P10 of document 01, at every time, and the figures of ranges.
 use Prim.Native.Nat.{ℕ, _+_, _-_}
-use mathlib.Core.Path.{_≡_}
+use mathlib.Core.Path.{_≡_, refl}
 use mathlib.Core.Bool.{true, false}
 use native.Mathlib.Omega.{arith}
 use borrow.Author.Tests.{le-leb, lt-leb, lt-ltb, le-ltb}
+use Rattle.octets.specs.Octets.{part, sameBytes}
 use Rattle.entry.specs.declared.EndpointProof.the-variants.{At}
 use Rattle.entry.specs.declared.PingState.the-variants.{Out}
-use Rattle.bucket_model.specs.Rules.{millis, pingTimeout, proofLifetime, proofHolds, proofExpired, isOverdue}
+use Rattle.bucket_model.specs.Rules.{millis, pingTimeout, proofLifetime, proofHolds, proofExpired, isOverdue, rangeCount, mayTake}
+use Rattle.bucket_model.specs.Claims.{RangeFigures}
 
 module _ (t : ℕ) where
   -- a proof of 43,200,000 ms ago holds, and a sweep keeps it
@@ -29,3 +31,10 @@ module _ (t : ℕ) where
 
   pub ping-overdue : isOverdue (t + 501) (Out (millis t)) ≡ true
   ping-overdue = lt-ltb pingTimeout (t + 501 - t) (omega arith)
+
+-- ---- ranges (C-16)
+
+pub range-figures : RangeFigures
+unfolding mayTake rangeCount part sameBytes
+range-figures =
+    record { same-three = refl; other-third = refl; sixteen = refl; beside-one = refl; beside-two = refl; of-another = refl }

@@ -3,9 +3,6 @@ use Prim.Native.Nat.{ℕ, _+_}
 use mathlib.Core.Path.{_≡_, refl, ap, ap₂, sym, _∙_}
 use mathlib.Core.Bool.{false}
 use mathlib.Core.List.{List, [], _∷_, _++_, map, append-nil}
-use borrow.Author.Tests.{ltb-true, ltb-false}
-use lib.Dec.{ltb}
-use lib.ListN.{length}
 use Rattle.octets.specs.Octets.{Bytes, sameBytes}
 use Rattle.octets.proofs.Laws.{same-eq}
 use Rattle.lists.specs.Lists.{empty}
@@ -13,7 +10,7 @@ use Rattle.lists.proofs.Laws.{byTest}
 use Rattle.node.specs.declared.Endpoint.{Endpoint}
 use Rattle.entry.specs.declared.Entry.{Entry}
 use Rattle.bucket_model.specs.Contents.{Contents}
-use Rattle.bucket_model.specs.Rules.{maxEntries, ofKey, held, pinged, ponged, heard, onPingSent, onPong, onHeard}
+use Rattle.bucket_model.specs.Rules.{ofKey, held, takesEntry, pinged, ponged, heard, onPingSent, onPong, onHeard}
 use Rattle.bucket_model.proofs.View.{SameAs, Mapped, other-pingSent, other-heard, other-pong, own-heard, own-pong-stays, own-pong-takes, own-pinged}
 
 -- the endpoint at which X is held, if it is
@@ -49,14 +46,14 @@ module _ (now : ℕ) (key : Bytes) (b : Contents) where
 
   own-pong : endpointsOf key (onPong now key b) ≡ endpointsOf key b
   own-pong =
-      byTest (ltb (length (b .entries)) maxEntries)
+      byTest (takesEntry key b)
       (λ t.
-      let is = own-pong-takes now key b (ltb-true (length (b .entries)) maxEntries t) in
+      let is = own-pong-takes now key b t in
       rw (is .entries, is .replacements, append-nil)
       (map-append (map (ponged now) (ofKey key (b .entries))) (map (ponged now) (ofKey key (b .replacements)))
       ∙ ap₂ _++_ (map-same (ponged now) (λ p. refl) (ofKey key (b .entries))) (map-same (ponged now) (λ p. refl) (ofKey key (b .replacements)))
       ∙ sym (map-append (ofKey key (b .entries)) (ofKey key (b .replacements)))))
-      (λ t. mapped-endpoints (ponged now) (λ p. refl) (onPong now key b) (own-pong-stays now key b (ltb-false (length (b .entries)) maxEntries t)))
+      (λ t. mapped-endpoints (ponged now) (λ p. refl) (onPong now key b) (own-pong-stays now key b t))
 
   pub endpoint-pong : (X : Bytes) → endpointsOf X (onPong now key b) ≡ endpointsOf X b
   endpoint-pong X =

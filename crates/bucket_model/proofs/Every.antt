@@ -2,14 +2,12 @@
 use Prim.Native.Nat.{ℕ}
 use mathlib.Core.Path.{_≡_}
 use mathlib.Core.Bool.{true}
-use lib.Dec.{ltb}
-use lib.ListN.{length}
 use Rattle.octets.specs.Octets.{Bytes}
 use Rattle.lists.specs.Lists.{select, empty}
 use Rattle.lists.proofs.Laws.{byTest, All-select, All-append, All-map}
 use Rattle.entry.specs.declared.Entry.{Entry}
 use Rattle.bucket_model.specs.Contents.{Contents}
-use Rattle.bucket_model.specs.Rules.{maxEntries, ofKey, isOf, held, toTail, pinged, ponged, heard, newEntry, staysEntry, staysReplacement, freeAfter, onPingSent, onPong, onHeard, onSweep}
+use Rattle.bucket_model.specs.Rules.{ofKey, isOf, held, toTail, pinged, ponged, heard, newEntry, staysEntry, staysReplacement, takesEntry, onPingSent, onPong, onHeard, onSweep}
 pub use Rattle.bucket_model.specs.Facts.{Every}
 use Rattle.bucket_model.proofs.Keys.{All-update, All-toTail, All-promoted, All-remaining}
 
@@ -30,7 +28,7 @@ module _ (P : Entry → Type 0) (now : ℕ) (m : Contents) (every : Every P m) w
   unfolding onPong
   every-pong key f =
       let tail = All-toTail P (ponged now) f key (m .entries) (every .0) in
-      byTest (ltb (length (m .entries)) maxEntries)
+      byTest (takesEntry key m)
       (λ g. rw g (
         All-append P (toTail key (ponged now) (m .entries)) _ tail
             (All-map P P (ponged now) f (ofKey key (m .replacements)) (All-select P (isOf key) (m .replacements) (every .1))),
@@ -49,6 +47,6 @@ module _ (P : Entry → Type 0) (now : ℕ) (m : Contents) (every : Every P m) w
       let line = All-select P (staysReplacement now) (m .replacements) (every .1) in (
         All-append P (select (staysEntry now) (m .entries)) _
             (All-select P (staysEntry now) (m .entries) (every .0))
-            (All-promoted P (freeAfter now m) (select (staysReplacement now) (m .replacements)) line),
-        All-remaining P (freeAfter now m) (select (staysReplacement now) (m .replacements)) line,
+            (All-promoted P (select (staysEntry now) (m .entries)) (select (staysReplacement now) (m .replacements)) line),
+        All-remaining P (select (staysEntry now) (m .entries)) (select (staysReplacement now) (m .replacements)) line,
       )

@@ -1,26 +1,27 @@
 -- Each rule leaves a sound bucket sound at the new clock; an empty bucket is sound.
 use Prim.Native.Nat.{ℕ, _-_, _<_, _≤_}
-use mathlib.Core.Path.{_≡_, refl, ap}
+use mathlib.Core.Path.{_≡_, refl, ap, sym, _∙_}
 use mathlib.Core.Logic.{⊎-elim}
-use mathlib.Core.Bool.{Bool, true, false, not, _||_}
-use mathlib.Core.List.{[], _∷_, _++_, map, append-nil}
+use mathlib.Core.Bool.{Bool, true, false, not, _&&_, _||_}
+use mathlib.Core.List.{List, [], _∷_, _++_, map, append-nil}
 use native.Mathlib.Omega.{arith}
 use borrow.Author.Tests.{ltb-true, ltb-false, leb-false}
 use lib.Dec.{ltb}
 use lib.ListN.{length, replicate, length-append, length-map}
 use Rattle.octets.specs.Octets.{Bytes, part, sameBytes}
 use Rattle.octets.proofs.Laws.{same-eq, same-refl, part-middle}
-use Rattle.lists.specs.Lists.{select, empty}
-use Rattle.lists.proofs.Laws.{byTest, empty-append, select-append, select-comm, length-select, length-split, All-select, All-append, All-map, All-imp}
+use Rattle.lists.specs.Lists.{select, empty, any, All}
+use Rattle.lists.proofs.Laws.{byTest, never, any-false, All-and, empty-append, select-append, select-comm, length-select, length-split, All-select, All-append, All-map, All-imp}
 use Rattle.entry.specs.declared.Entry.{Entry}
 use Rattle.entry.specs.declared.EndpointProof.{EndpointProof}
 use Rattle.entry.specs.declared.EndpointProof.the-variants.{Unproved, At}
 use Rattle.entry.specs.declared.PingState.{PingState}
 use Rattle.entry.specs.declared.PingState.the-variants.{Quiet, Out}
 use Rattle.bucket_model.specs.Contents.{Contents, noContents}
-use Rattle.bucket_model.specs.Rules.{maxEntries, maxReplacements, isOf, ofKey, without, update, toTail, held, isProved, isOut, noRoom, endpointOf, pinged, ponged, heard, newEntry, promoted, staysEntry, staysReplacement, freeAfter, onPingSent, onPong, onHeard, onSweep}
+use Rattle.bucket_model.specs.Rules.{maxEntries, maxReplacements, isOf, ofKey, without, update, toTail, held, isProved, isOut, noRoom, endpointOf, pinged, ponged, heard, newEntry, mayTake, isPromoted, takesEntry, promoted, staysEntry, staysReplacement, onPingSent, onPong, onHeard, onSweep}
 use Rattle.bucket_model.specs.Sound.{addressForm}
-use Rattle.bucket_model.proofs.Keys.{count-update, count-toTail, count-moved, length-toTail, All-update, All-toTail, All-remaining, promoted-proved, length-promoted, length-remaining, promoted-all, promoted-or-remaining}
+use Rattle.bucket_model.proofs.Keys.{count-update, count-toTail, count-moved, length-toTail, All-update, All-update-by, All-toTail, All-remaining, promoted-proved, length-promoted, length-remaining, promoted-all, promoted-or-remaining}
+use Rattle.bucket_model.proofs.Ranges.{KeepsEndpoint, Alike, may-alike, alike-tail, alike-update, not-later, takes-room, ranges-taken, ranges-tail, ranges-update, ranges-select, ranges-promoted}
 use Rattle.bucket_model.specs.Facts.{Every, ProofBy, PingBy, EntrySound, BucketSound}
 use Rattle.bucket_model.proofs.Every.{every-pingSent, every-pong, every-heard, every-sweep}
 use Rattle.bucket_model.proofs.Sound.{IsAddress}
@@ -66,7 +67,8 @@ module _ (home : Bytes → Bool) where
         replacements-bound = s .replacements-bound;
         entries-proved = s .entries-proved;
         unproved-pinged = s .unproved-pinged;
-        full = s .full;
+        ranges = s .ranges;
+        settled = s .settled;
       }
 
   pub sound-fresh : (clock : ℕ) → BucketSound home clock noContents
@@ -79,7 +81,8 @@ module _ (home : Bytes → Bool) where
         replacements-bound = omega arith;
         entries-proved = tt;
         unproved-pinged = tt;
-        full = λ h. tt;
+        ranges = tt;
+        settled = tt;
       }
 
   module _ (now : ℕ) where
@@ -89,8 +92,12 @@ module _ (home : Bytes → Bool) where
     abbrev IsProved : Entry → Type 0
     IsProved p = isProved (p .proof) ≡ true
 
-    abbrev IsUnproved : Entry → Type 0
-    IsUnproved p = isProved (p .proof) ≡ false
+    -- an entry of a line, where the entries t are taken
+    abbrev Settled : List Entry → Entry → Type 0
+    Settled t p = isPromoted t p ≡ false
+
+    settled-alike : (t u : List Entry) → Alike u t → (l : List Entry) → All (Settled t) l → All (Settled u) l
+    settled-alike t u al = All-imp (Settled t) (Settled u) (λ p r. ap (λ (b : Bool). isProved (p .proof) && b) (may-alike u t al (p .endpoint)) ∙ r)
 
     abbrev MayStay : Entry → Type 0
     MayStay p = (isProved (p .proof) || isOut (p .ping)) ≡ true
@@ -151,7 +158,8 @@ module _ (home : Bytes → Bool) where
             replacements-bound = simp length-append (omega arith);
             entries-proved = s .entries-proved;
             unproved-pinged = All-append MayStay (m .replacements) _ (s .unproved-pinged) (refl, tt);
-            full = λ f. All-append IsUnproved (m .replacements) _ (s .full f) (refl, tt);
+            ranges = s .ranges;
+            settled = All-append (Settled (m .entries)) (m .replacements) _ (s .settled) (refl, tt);
           }
 
       repinged-sound : Every Ok repinged → Sound repinged
@@ -164,7 +172,11 @@ module _ (home : Bytes → Bool) where
             replacements-bound = simp length-map (s .replacements-bound);
             entries-proved = All-update IsProved (pinged now hash) (λ p r. r) key (m .entries) (s .entries-proved);
             unproved-pinged = All-update MayStay (pinged now hash) (λ p r. or-true (isProved (p .proof))) key (m .replacements) (s .unproved-pinged);
-            full = λ f. All-update IsUnproved (pinged now hash) (λ p r. r) key (m .replacements) (s .full (simp length-map at f));
+            ranges = ranges-update (pinged now hash) (λ p. refl) key (m .entries) (s .ranges);
+            settled =
+                settled-alike (m .entries) (update key (pinged now hash) (m .entries)) (alike-update (pinged now hash) (λ p. refl) key (m .entries))
+                (update key (pinged now hash) (m .replacements))
+                (All-update (Settled (m .entries)) (pinged now hash) (λ p r. r) key (m .replacements) (s .settled));
           }
 
       pub sound-pingSent : home key ≡ true → IsAddress address → noRoom key m ≡ false → Sound (onPingSent now key address udp tcp hash m)
@@ -199,7 +211,11 @@ module _ (home : Bytes → Bool) where
             replacements-bound = simp length-map (s .replacements-bound);
             entries-proved = All-toTail IsProved (heard now) (λ p r. r) key (m .entries) (s .entries-proved);
             unproved-pinged = All-update MayStay (heard now) (λ p r. r) key (m .replacements) (s .unproved-pinged);
-            full = λ f. All-update IsUnproved (heard now) (λ p r. r) key (m .replacements) (s .full (simp (length-toTail (heard now)) at f));
+            ranges = ranges-tail (heard now) (λ p. refl) key (m .entries) (s .ranges);
+            settled =
+                settled-alike (m .entries) (toTail key (heard now) (m .entries)) (alike-tail (heard now) (λ p. refl) key (m .entries))
+                (update key (heard now) (m .replacements))
+                (All-update (Settled (m .entries)) (heard now) (λ p r. r) key (m .replacements) (s .settled));
           }
 
       abbrev taken : Contents
@@ -212,8 +228,11 @@ module _ (home : Bytes → Bool) where
       abbrev stayed : Contents
       stayed = record { entries = toTail key (ponged now) (m .entries); replacements = update key (ponged now) (m .replacements) }
 
-      taken-sound : Every Ok taken → length (m .entries) < maxEntries → Sound taken
-      taken-sound every room =
+      taken-sound : Every Ok taken → takesEntry key m ≡ true → Sound taken
+      taken-sound every takes =
+          let room = takes-room (m .entries) (ofKey key (m .replacements)) takes in
+          let moved = toTail key (ponged now) (m .entries) in
+          let al = alike-tail (ponged now) (λ p. refl) key (m .entries) in
           record {
             entries-sound = every .0;
             replacements-sound = every .1;
@@ -231,11 +250,24 @@ module _ (home : Bytes → Bool) where
                 (All-toTail IsProved (ponged now) (λ p r. refl) key (m .entries) (s .entries-proved))
                 (All-map Ok IsProved (ponged now) (λ p r. refl) (ofKey key (m .replacements)) (All-select Ok (isOf key) (m .replacements) (s .replacements-sound)));
             unproved-pinged = All-select MayStay _ (m .replacements) (s .unproved-pinged);
-            full = λ f. All-select IsUnproved _ (m .replacements) (s .full room);
+            ranges =
+                ranges-taken (ponged now) (λ p. refl) (m .entries) moved (ofKey key (m .replacements)) al
+                (ranges-tail (ponged now) (λ p. refl) key (m .entries) (s .ranges)) (omega (arith, s .once key)) takes;
+            settled =
+                All-imp (Settled moved) (Settled (moved ++ map (ponged now) (ofKey key (m .replacements))))
+                (λ p r. not-later moved (map (ponged now) (ofKey key (m .replacements))) p r) (without key (m .replacements))
+                (settled-alike (m .entries) moved al (without key (m .replacements)) (All-select (Settled (m .entries)) _ (m .replacements) (s .settled)));
           }
 
-      stayed-sound : Every Ok stayed → maxEntries ≤ length (m .entries) → Sound stayed
-      stayed-sound every none-free =
+      of-key : (l : List Entry) → All (λ p. mayTake (m .entries) (p .endpoint) ≡ false) (ofKey key l) → All (λ p. isOf key p ≡ true → mayTake (m .entries) (p .endpoint) ≡ false) l
+      of-key [] = λ a. tt
+      of-key (p ∷ l) =
+          byTest (isOf key p)
+          (λ g. rw g (λ a. ((λ _. a .0), of-key l (a .1))))
+          (λ g. rw g (λ a. ((λ t. never (sym t)), of-key l a)))
+
+      stayed-sound : Every Ok stayed → takesEntry key m ≡ false → Sound stayed
+      stayed-sound every stays =
           record {
             entries-sound = every .0;
             replacements-sound = every .1;
@@ -244,16 +276,22 @@ module _ (home : Bytes → Bool) where
             replacements-bound = simp length-map (s .replacements-bound);
             entries-proved = All-toTail IsProved (ponged now) (λ p r. refl) key (m .entries) (s .entries-proved);
             unproved-pinged = All-update MayStay (ponged now) (λ p r. refl) key (m .replacements) (s .unproved-pinged);
-            full = λ f. absurd (omega (arith, simp (length-toTail (ponged now)) at f));
+            ranges = ranges-tail (ponged now) (λ p. refl) key (m .entries) (s .ranges);
+            settled =
+                settled-alike (m .entries) (toTail key (ponged now) (m .entries)) (alike-tail (ponged now) (λ p. refl) key (m .entries))
+                (update key (ponged now) (m .replacements))
+                (All-update-by (λ p. (isOf key p ≡ true → mayTake (m .entries) (p .endpoint) ≡ false) × Settled (m .entries) p) (Settled (m .entries)) (ponged now) key
+                (λ p r i. r .0 i) (λ p r i. r .1) (m .replacements)
+                (All-and _ _ (m .replacements) (of-key (m .replacements) (any-false (λ e. mayTake (m .entries) (e .endpoint)) (ofKey key (m .replacements)) stays)) (s .settled)));
           }
 
       pub sound-pong : Sound (onPong now key m)
       unfolding onPong
       sound-pong =
           let every : Every Ok (onPong now key m) = every-pong Ok now m (s .entries-sound, s .replacements-sound) key ponged-ok in
-          byTest (ltb (length (m .entries)) maxEntries)
-          (λ g. rw g (taken-sound (rw g at every) (ltb-true (length (m .entries)) maxEntries g)))
-          (λ g. rw g (stayed-sound (rw g at every) (ltb-false (length (m .entries)) maxEntries g)))
+          byTest (takesEntry key m)
+          (λ g. rw g (taken-sound (rw g at every) g))
+          (λ g. rw g (stayed-sound (rw g at every) g))
 
     -- ---- sweep
 
@@ -262,7 +300,6 @@ module _ (home : Bytes → Bool) where
     sound-sweep m s =
         let stay = select (staysEntry now) (m .entries) in
         let line = select (staysReplacement now) (m .replacements) in
-        let free = freeAfter now m in
         let fewer = length-select (staysEntry now) (m .entries) in
         let most = s .entries-bound in
         let every = every-sweep Ok now m (s .entries-sound, s .replacements-sound) in
@@ -271,16 +308,17 @@ module _ (home : Bytes → Bool) where
           replacements-sound = every .1;
           once = λ X.
               let was = s .once X in
-              let split = promoted-or-remaining X free line in
+              let split = promoted-or-remaining X stay line in
               let a = length-select (staysEntry now) (ofKey X (m .entries)) in
               let c = length-select (staysReplacement now) (ofKey X (m .replacements)) in
               simp (select-append, length-append)
               (omega (arith, ap length (select-comm (isOf X) (staysEntry now) (m .entries)), ap length (select-comm (isOf X) (staysReplacement now) (m .replacements))));
-          entries-bound = simp length-append (omega (arith, length-promoted free line));
-          replacements-bound = omega (arith, length-remaining free line, length-select (staysReplacement now) (m .replacements), s .replacements-bound);
+          entries-bound = simp length-append (length-promoted stay line (omega arith));
+          replacements-bound = omega (arith, length-remaining stay line, length-select (staysReplacement now) (m .replacements), s .replacements-bound);
           entries-proved =
-              All-append IsProved stay (promoted free line) (All-select IsProved (staysEntry now) (m .entries) (s .entries-proved))
-              (promoted-proved free line);
-          unproved-pinged = All-remaining MayStay free line (All-select MayStay (staysReplacement now) (m .replacements) (s .unproved-pinged));
-          full = λ f. promoted-all free line (omega (arith, simp length-append at f));
+              All-append IsProved stay (promoted stay line) (All-select IsProved (staysEntry now) (m .entries) (s .entries-proved))
+              (promoted-proved stay line);
+          unproved-pinged = All-remaining MayStay stay line (All-select MayStay (staysReplacement now) (m .replacements) (s .unproved-pinged));
+          ranges = ranges-promoted stay line (ranges-select (staysEntry now) (m .entries) (s .ranges));
+          settled = promoted-all stay line;
         }

@@ -2,17 +2,16 @@
 use Prim.Native.Nat.{ℕ, _+_, _-_, _<_, _≤_}
 use mathlib.Core.Path.{_≡_, refl}
 use mathlib.Core.Bool.{true, false, _&&_}
-use mathlib.Core.List.{List, [], _∷_, map, append-nil}
+use mathlib.Core.List.{List, [], _∷_, _++_, map, append-nil, append-assoc}
 use native.Mathlib.Omega.{arith}
-use borrow.Author.Tests.{ltb-true, ltb-false}
-use lib.Dec.{ltb}
 use lib.ListN.{length, length-append, length-map}
 use Rattle.octets.specs.Octets.{Bytes, sameBytes}
 use Rattle.octets.proofs.Laws.{same-eq}
 use Rattle.lists.specs.Lists.{All}
 use Rattle.lists.proofs.Laws.{byTest, and-left, and-right, select-append, length-split, All-select, All-append, All-map}
 use Rattle.entry.specs.declared.Entry.{Entry}
-use Rattle.bucket_model.specs.Rules.{isOf, ofKey, without, update, toTail, isProved, promoted, remaining}
+use Rattle.bucket_model.specs.Rules.{maxEntries, isOf, ofKey, without, update, toTail, isProved, mayTake, isPromoted, promoted, remaining}
+use Rattle.bucket_model.proofs.Ranges.{take-room, not-later}
 
 -- f leaves the key as it is
 abbrev pub KeepsKey : (Entry → Entry) → Type 0
@@ -77,48 +76,49 @@ module _ (X k : Bytes) (d : sameBytes X k ≡ false) where
 pub length-toTail : (f : Entry → Entry) (k : Bytes) (l : List Entry) → length (toTail k f l) ≡ length l
 length-toTail f k l = simp (length-append, length-map) (length-split (isOf k) l)
 
--- ---- the promotion of a line
+-- ---- the promotion of a line, where the entries t are taken
 
-pub length-promoted : (n : ℕ) (l : List Entry) → length (promoted n l) ≤ n
-length-promoted n [] = omega arith
-length-promoted n (p ∷ l) =
-    byTest (isProved (p .proof) && ltb 0 n)
-    (λ g. rw g (omega (arith, ltb-true 0 n (and-right (isProved (p .proof)) (ltb 0 n) g), length-promoted (n - 1) l)))
-    (λ g. rw g (length-promoted n l))
+pub length-promoted : (t l : List Entry) → length t ≤ maxEntries → length t + length (promoted t l) ≤ maxEntries
+length-promoted t [] h = omega arith
+length-promoted t (p ∷ l) h =
+    byTest (isPromoted t p)
+    (λ g.
+    let room = take-room t (p .endpoint) (and-right (isProved (p .proof)) (mayTake t (p .endpoint)) g) in
+    let more = simp length-append at (length-promoted (t ++ (p ∷ [])) l (simp length-append (omega arith))) in
+    rw g (omega arith))
+    (λ g. rw g (length-promoted t l h))
 
-pub promoted-proved : (n : ℕ) (l : List Entry) → All (λ p. isProved (p .proof) ≡ true) (promoted n l)
-promoted-proved n [] = tt
-promoted-proved n (p ∷ l) =
-    byTest (isProved (p .proof) && ltb 0 n)
-    (λ g. rw g (and-left (isProved (p .proof)) (ltb 0 n) g, promoted-proved (n - 1) l))
-    (λ g. rw g (promoted-proved n l))
+pub promoted-proved : (t l : List Entry) → All (λ p. isProved (p .proof) ≡ true) (promoted t l)
+promoted-proved t [] = tt
+promoted-proved t (p ∷ l) =
+    byTest (isPromoted t p)
+    (λ g. rw g (and-left (isProved (p .proof)) (mayTake t (p .endpoint)) g, promoted-proved (t ++ (p ∷ [])) l))
+    (λ g. rw g (promoted-proved t l))
 
-pub length-remaining : (n : ℕ) (l : List Entry) → length (remaining n l) ≤ length l
-length-remaining n [] = omega arith
-length-remaining n (p ∷ l) =
-    byTest (isProved (p .proof) && ltb 0 n)
-    (λ g. rw g (omega (arith, length-remaining (n - 1) l)))
-    (λ g. rw g (omega (arith, length-remaining n l)))
+pub length-remaining : (t l : List Entry) → length (remaining t l) ≤ length l
+length-remaining t [] = omega arith
+length-remaining t (p ∷ l) =
+    byTest (isPromoted t p)
+    (λ g. rw g (omega (arith, length-remaining (t ++ (p ∷ [])) l)))
+    (λ g. rw g (omega (arith, length-remaining t l)))
 
--- an entry is left free only where no proved node stays in line
-pub promoted-all : (n : ℕ) (l : List Entry) → length (promoted n l) < n → All (λ p. isProved (p .proof) ≡ false) (remaining n l)
-promoted-all n [] = λ h. tt
-promoted-all n (p ∷ l) =
-    byTest (isProved (p .proof))
-    (λ g. byTest (ltb 0 n)
-    (λ f. simp (g, f) (λ h. promoted-all (n - 1) l (omega arith)))
-    (λ f. simp (g, f) (λ h. absurd (omega (arith, ltb-false 0 n f)))))
-    (λ g. simp g (λ h. (refl, promoted-all n l h)))
+-- no proved node that may still take an entry stays in line
+pub promoted-all : (t l : List Entry) → All (λ p. isPromoted (t ++ promoted t l) p ≡ false) (remaining t l)
+promoted-all t [] = tt
+promoted-all t (p ∷ l) =
+    byTest (isPromoted t p)
+    (λ g. rw g (rw append-assoc at (promoted-all (t ++ (p ∷ [])) l)))
+    (λ g. rw g (not-later t (promoted t l) p g, promoted-all t l))
 
 -- an entry of the line is promoted or stays, once
-pub promoted-or-remaining : (X : Bytes) (n : ℕ) (l : List Entry)
-    → length (ofKey X (promoted n l)) + length (ofKey X (remaining n l)) ≡ length (ofKey X l)
-promoted-or-remaining X n [] = omega arith
-promoted-or-remaining X n (p ∷ l) =
-    byTest (isProved (p .proof) && ltb 0 n)
-    (λ g. let ih = promoted-or-remaining X (n - 1) l in
+pub promoted-or-remaining : (X : Bytes) (t l : List Entry)
+    → length (ofKey X (promoted t l)) + length (ofKey X (remaining t l)) ≡ length (ofKey X l)
+promoted-or-remaining X t [] = omega arith
+promoted-or-remaining X t (p ∷ l) =
+    byTest (isPromoted t p)
+    (λ g. let ih = promoted-or-remaining X (t ++ (p ∷ [])) l in
     byTest (isOf X p) (λ f. simp (g, f) (omega arith)) (λ f. simp (g, f) (omega arith)))
-    (λ g. let ih = promoted-or-remaining X n l in
+    (λ g. let ih = promoted-or-remaining X t l in
     byTest (isOf X p) (λ f. simp (g, f) (omega arith)) (λ f. simp (g, f) (omega arith)))
 
 -- ---- what holds of each entry
@@ -131,23 +131,33 @@ module _ (P : Entry → Type 0) where
       (λ g. rw g (h p (a .0), All-update f h k l (a .1)))
       (λ g. rw g (a .0, All-update f h k l (a .1)))
 
+  -- by whether it is of the key
+  pub All-update-by : (Q : Entry → Type 0) (f : Entry → Entry) (k : Bytes)
+      → ((p : Entry) → P p → isOf k p ≡ true → Q (f p)) → ((p : Entry) → P p → isOf k p ≡ false → Q p)
+      → (l : List Entry) → All P l → All Q (update k f l)
+  All-update-by Q f k h g [] a = tt
+  All-update-by Q f k h g (p ∷ l) a =
+      byTest (isOf k p)
+      (λ i. rw i (h p (a .0) i, All-update-by Q f k h g l (a .1)))
+      (λ i. rw i (g p (a .0) i, All-update-by Q f k h g l (a .1)))
+
   pub All-toTail : (f : Entry → Entry) → ((p : Entry) → P p → P (f p)) → (k : Bytes) (l : List Entry) → All P l → All P (toTail k f l)
   All-toTail f h k l a =
       All-append P (without k l) (map f (ofKey k l)) (All-select P _ l a) (All-map P P f h (ofKey k l) (All-select P (isOf k) l a))
 
-  pub All-promoted : (n : ℕ) (l : List Entry) → All P l → All P (promoted n l)
-  All-promoted n [] a = tt
-  All-promoted n (p ∷ l) a =
-      byTest (isProved (p .proof) && ltb 0 n)
-      (λ g. rw g (a .0, All-promoted (n - 1) l (a .1)))
-      (λ g. rw g (All-promoted n l (a .1)))
+  pub All-promoted : (t l : List Entry) → All P l → All P (promoted t l)
+  All-promoted t [] a = tt
+  All-promoted t (p ∷ l) a =
+      byTest (isPromoted t p)
+      (λ g. rw g (a .0, All-promoted (t ++ (p ∷ [])) l (a .1)))
+      (λ g. rw g (All-promoted t l (a .1)))
 
-  pub All-remaining : (n : ℕ) (l : List Entry) → All P l → All P (remaining n l)
-  All-remaining n [] a = tt
-  All-remaining n (p ∷ l) a =
-      byTest (isProved (p .proof) && ltb 0 n)
-      (λ g. rw g (All-remaining (n - 1) l (a .1)))
-      (λ g. rw g (a .0, All-remaining n l (a .1)))
+  pub All-remaining : (t l : List Entry) → All P l → All P (remaining t l)
+  All-remaining t [] a = tt
+  All-remaining t (p ∷ l) a =
+      byTest (isPromoted t p)
+      (λ g. rw g (All-remaining (t ++ (p ∷ [])) l (a .1)))
+      (λ g. rw g (a .0, All-remaining t l (a .1)))
 
 -- ---- how many entries a key has
 

@@ -1,3 +1,4 @@
+pub mod Ranges
 pub mod Keys
 pub mod Promotion
 pub mod Every

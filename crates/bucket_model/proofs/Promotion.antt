@@ -1,20 +1,22 @@
 -- The line of replacements: who of it a sweep promotes, and how each rule keeps its order.
 use Prim.Native.Nat.{ℕ, _-_, _<_, _≤_}
-use mathlib.Core.Path.{_≡_, refl}
+use mathlib.Core.Path.{_≡_, refl, sym, _∙_}
 use mathlib.Core.Bool.{Bool, true, false, cond, not, _&&_, and-false}
-use mathlib.Core.List.{List, [], _∷_}
+use mathlib.Core.List.{List, [], _∷_, _++_, append-nil, append-assoc}
 use native.Mathlib.Omega.{arith}
-use borrow.Author.Tests.{ltb-true, ltb-false, le-ltb, lt-ltb}
+use borrow.Author.Tests.{le-ltb, lt-ltb}
 use lib.Dec.{ltb}
 use lib.ListN.{length}
 use Rattle.octets.specs.Octets.{Bytes}
 use Rattle.octets.proofs.Laws.{same-eq}
 use Rattle.lists.specs.Lists.{select, empty, before, All, Rising}
-use Rattle.lists.proofs.Laws.{byTest, never, and-right, length-select, Rising-select, Rising-snoc, Rising-map}
+use Rattle.lists.proofs.Laws.{byTest, never, and-right, All-none, Rising-select, Rising-snoc, Rising-map}
 use Rattle.entry.specs.declared.Entry.{Entry}
 use Rattle.bucket_model.specs.Contents.{Contents}
-use Rattle.bucket_model.specs.Rules.{maxEntries, isOf, ofKey, update, held, isProved, pinged, ponged, heard, newEntry, promoted, remaining, staysReplacement, freeAfter, onPingSent, onPong, onHeard, onSweep}
-use Rattle.bucket_model.proofs.Keys.{KeepsKey, All-remaining, length-promoted, promoted-or-remaining}
+use Rattle.bucket_model.specs.Rules.{maxEntries, isOf, ofKey, update, held, isProved, pinged, ponged, heard, newEntry, mayTake, isPromoted, maxOfRange, rangeCount, takesEntry, promoted, remaining, staysEntry, staysReplacement, onPingSent, onPong, onHeard, onSweep}
+use Rattle.bucket_model.specs.Facts.{SeatFor}
+use Rattle.bucket_model.proofs.Keys.{KeepsKey, All-remaining, promoted-or-remaining}
+use Rattle.bucket_model.proofs.Ranges.{take-room, take-range, may-take}
 
 -- ---- who is promoted
 
@@ -22,64 +24,62 @@ abbrev pub provedEntry : Entry → Bool
 provedEntry p = isProved (p .proof)
 
 module _ (X : Bytes) where
-  -- the proved entries before X
-  unfoldable pub provedBefore : List Entry → ℕ
-  provedBefore l = length (select provedEntry (before (isOf X) l))
+  -- the entries that X finds taken at its turn
+  unfoldable pub takenBefore : List Entry → List Entry → List Entry
+  takenBefore t l = t ++ promoted t (before (isOf X) l)
 
-  pub promoted-room : (n : ℕ) (l : List Entry) → length (ofKey X l) ≤ 1 → 0 < length (ofKey X (promoted n l)) → provedBefore l < n
-  unfolding provedBefore
-  promoted-room n [] = λ o h. absurd (omega arith)
-  promoted-room n (p ∷ l) =
+  pub promoted-room : (t l : List Entry) → length (ofKey X l) ≤ 1 → 0 < length (ofKey X (promoted t l)) → SeatFor X (takenBefore t l) l
+  unfolding takenBefore
+  promoted-room t [] = λ o h. absurd (omega arith)
+  promoted-room t (p ∷ l) =
       byTest (isOf X p)
-      (λ f. byTest (isProved (p .proof) && ltb 0 n)
-      (λ g. simp (f, g) (λ o h. ltb-true 0 n (and-right (isProved (p .proof)) (ltb 0 n) g)))
-      (λ g. simp (f, g) (λ o h. absurd (omega (arith, promoted-or-remaining X n l)))))
-      (λ f. byTest (isProved (p .proof))
-      (λ g. byTest (ltb 0 n)
-      (λ i. simp (f, g, i) (λ o h. omega (arith, promoted-room (n - 1) l o h)))
-      (λ i. simp (f, g, i) (λ o h. absurd (omega (arith, ltb-false 0 n i, length-promoted n l, length-select (isOf X) (promoted n l))))))
-      (λ g. simp (f, g) (λ o h. promoted-room n l o h)))
+      (λ f. byTest (isPromoted t p)
+      (λ g. simp (f, g, append-nil) (λ o h.
+      let may = and-right (isProved (p .proof)) (mayTake t (p .endpoint)) g in
+      (take-room t (p .endpoint) may, (take-range t (p .endpoint) may, All-none _ (ofKey X l) (omega arith)))))
+      (λ g. simp (f, g) (λ o h. absurd (omega (arith, promoted-or-remaining X t l)))))
+      (λ f. byTest (isPromoted t p)
+      (λ g. simp (f, g) (λ o h. rw append-assoc at (promoted-room (t ++ (p ∷ [])) l o h)))
+      (λ g. simp (f, g) (λ o h. promoted-room t l o h)))
 
-  pub room-promoted : (n : ℕ) (l : List Entry) → All (λ p. provedEntry p ≡ true) (ofKey X l) → 0 < length (ofKey X l) → provedBefore l < n
-      → 0 < length (ofKey X (promoted n l))
-  unfolding provedBefore
-  room-promoted n [] = λ a h o. absurd (omega arith)
-  room-promoted n (p ∷ l) =
+  pub room-promoted : (t l : List Entry) → All (λ p. provedEntry p ≡ true) (ofKey X l) → 0 < length (ofKey X l) → SeatFor X (takenBefore t l) l
+      → 0 < length (ofKey X (promoted t l))
+  unfolding takenBefore
+  room-promoted t [] = λ a h o. absurd (omega arith)
+  room-promoted t (p ∷ l) =
       byTest (isOf X p)
-      (λ f. byTest (isProved (p .proof))
-      (λ g. byTest (ltb 0 n)
-      (λ i. simp (f, g, i) (λ a h o. omega arith))
-      (λ i. simp (f, g, i) (λ a h o. absurd (omega (arith, ltb-false 0 n i)))))
-      (λ g. simp (f, g) (λ a h o. never (let z : true ≡ false = cc (a .0) in z))))
-      (λ f. byTest (isProved (p .proof))
-      (λ g. byTest (ltb 0 n)
-      (λ i. simp (f, g, i) (λ a h o. room-promoted (n - 1) l a h (omega arith)))
-      (λ i. simp (f, g, i) (λ a h o. absurd (omega (arith, ltb-false 0 n i)))))
-      (λ g. simp (f, g) (λ a h o. room-promoted n l a h o)))
+      (λ f. byTest (isPromoted t p)
+      (λ g. simp (f, g) (λ a h o. omega arith))
+      (λ g. simp (f, append-nil) (λ a h o.
+      let may = may-take t (p .endpoint) (o .0) (o .1 .0) in
+      never (sym (rw (a .0, may)) ∙ g))))
+      (λ f. byTest (isPromoted t p)
+      (λ g. simp (f, g) (λ a h o. room-promoted (t ++ (p ∷ [])) l a h (rw append-assoc o)))
+      (λ g. simp (f, g) (λ a h o. room-promoted t l a h o)))
 
 -- a property of the node in line, through a promotion
 module _ (P : Entry → Type 0) (X : Bytes) where
-  pub ofKey-promoted : (n : ℕ) (l : List Entry) → All P (ofKey X l) → All P (ofKey X (promoted n l))
-  ofKey-promoted n [] = λ a. tt
-  ofKey-promoted n (p ∷ l) =
-      byTest (isProved (p .proof) && ltb 0 n)
+  pub ofKey-promoted : (t l : List Entry) → All P (ofKey X l) → All P (ofKey X (promoted t l))
+  ofKey-promoted t [] = λ a. tt
+  ofKey-promoted t (p ∷ l) =
+      byTest (isPromoted t p)
       (λ g. byTest (isOf X p)
-      (λ f. simp (g, f) (λ a. (a .0, ofKey-promoted (n - 1) l (a .1))))
-      (λ f. simp (g, f) (λ a. ofKey-promoted (n - 1) l a)))
+      (λ f. simp (g, f) (λ a. (a .0, ofKey-promoted (t ++ (p ∷ [])) l (a .1))))
+      (λ f. simp (g, f) (λ a. ofKey-promoted (t ++ (p ∷ [])) l a)))
       (λ g. byTest (isOf X p)
-      (λ f. simp (g, f) (λ a. ofKey-promoted n l (a .1)))
-      (λ f. simp (g, f) (λ a. ofKey-promoted n l a)))
+      (λ f. simp (g, f) (λ a. ofKey-promoted t l (a .1)))
+      (λ f. simp (g, f) (λ a. ofKey-promoted t l a)))
 
-  pub ofKey-remaining : (n : ℕ) (l : List Entry) → All P (ofKey X l) → All P (ofKey X (remaining n l))
-  ofKey-remaining n [] = λ a. tt
-  ofKey-remaining n (p ∷ l) =
-      byTest (isProved (p .proof) && ltb 0 n)
+  pub ofKey-remaining : (t l : List Entry) → All P (ofKey X l) → All P (ofKey X (remaining t l))
+  ofKey-remaining t [] = λ a. tt
+  ofKey-remaining t (p ∷ l) =
+      byTest (isPromoted t p)
       (λ g. byTest (isOf X p)
-      (λ f. simp (g, f) (λ a. ofKey-remaining (n - 1) l (a .1)))
-      (λ f. simp (g, f) (λ a. ofKey-remaining (n - 1) l a)))
+      (λ f. simp (g, f) (λ a. ofKey-remaining (t ++ (p ∷ [])) l (a .1)))
+      (λ f. simp (g, f) (λ a. ofKey-remaining (t ++ (p ∷ [])) l a)))
       (λ g. byTest (isOf X p)
-      (λ f. simp (g, f) (λ a. (a .0, ofKey-remaining n l (a .1))))
-      (λ f. simp (g, f) (λ a. ofKey-remaining n l a)))
+      (λ f. simp (g, f) (λ a. (a .0, ofKey-remaining t l (a .1))))
+      (λ f. simp (g, f) (λ a. ofKey-remaining t l a)))
 
 -- ---- a line in rising order of a rank of its keys
 
@@ -94,12 +94,12 @@ module _ (rank : Bytes → ℕ) where
   rising-update key f kf l r =
       Rising-map Below (λ p. cond (isOf key p) (f p) p) (λ p q h. rw (updated-key key f kf p, updated-key key f kf q) h) l r
 
-  rising-remaining : (n : ℕ) (l : List Entry) → Rising Below l → Rising Below (remaining n l)
-  rising-remaining n [] r = tt
-  rising-remaining n (p ∷ l) r =
-      byTest (isProved (p .proof) && ltb 0 n)
-      (λ g. rw g (rising-remaining (n - 1) l (r .1)))
-      (λ g. rw g (All-remaining (Below p) n l (r .0), rising-remaining n l (r .1)))
+  rising-remaining : (t l : List Entry) → Rising Below l → Rising Below (remaining t l)
+  rising-remaining t [] r = tt
+  rising-remaining t (p ∷ l) r =
+      byTest (isPromoted t p)
+      (λ g. rw g (rising-remaining (t ++ (p ∷ [])) l (r .1)))
+      (λ g. rw g (All-remaining (Below p) t l (r .0), rising-remaining t l (r .1)))
 
   none-lower : (q : Entry → Bool) (X : Bytes) (l : List Entry) → All (λ p. rank X < rank (p .key)) l
       → select (λ p. q p && ltb (rank (p .key)) (rank X)) l ≡ []
@@ -138,7 +138,7 @@ module _ (rank : Bytes → ℕ) where
     pub rising-pong : Rising Below (onPong now key b .replacements)
     unfolding onPong
     rising-pong =
-        byTest (ltb (length (b .entries)) maxEntries)
+        byTest (takesEntry key b)
         (λ g. rw g (Rising-select Below (λ p. not (isOf key p)) (b .replacements) r))
         (λ g. rw g (rising-update key (ponged now) (λ p. refl) (b .replacements) r))
 
@@ -155,5 +155,5 @@ module _ (rank : Bytes → ℕ) where
   pub rising-sweep : (now : ℕ) (b : Contents) → Rising Below (b .replacements) → Rising Below (onSweep now b .replacements)
   unfolding onSweep
   rising-sweep now b r =
-      rising-remaining (freeAfter now b) (select (staysReplacement now) (b .replacements))
+      rising-remaining (select (staysEntry now) (b .entries)) (select (staysReplacement now) (b .replacements))
       (Rising-select Below (staysReplacement now) (b .replacements) r)

@@ -18,8 +18,8 @@ use Rattle.entry.specs.declared.EndpointProof.the-variants.{Unproved, At}
 use Rattle.entry.specs.declared.PingState.{PingState}
 use Rattle.entry.specs.declared.PingState.the-variants.{Quiet, Out}
 use Rattle.bucket_model.specs.Contents.{Contents}
-use Rattle.bucket_model.specs.Rules.{maxEntries, maxReplacements, isOf, ofKey, isProved, isOut}
-use Rattle.bucket_model.specs.Sound.{proofBy, pingBy, inTime, addressForm, entrySound, mayWait, distinct, isFull, keepsRules}
+use Rattle.bucket_model.specs.Rules.{maxEntries, maxReplacements, maxOfRange, isOf, ofKey, isProved, isOut, rangeCount, mayTake, isPromoted}
+use Rattle.bucket_model.specs.Sound.{proofBy, pingBy, inTime, addressForm, entrySound, mayWait, distinct, rangesKept, keepsRules}
 use Rattle.bucket_model.specs.Facts.{ProofBy, PingBy}
 pub use Rattle.bucket_model.specs.Facts.{EntrySound, BucketSound}
 
@@ -98,19 +98,17 @@ once-distinct (p ∷ l) h =
 
 -- ---- replacements
 
-may-pinged : (full : Bool) (p : Entry) → mayWait full p ≡ true → (isProved (p .proof) || isOut (p .ping)) ≡ true
-may-pinged full p = byTest (isProved (p .proof)) (λ g. rw g (λ h. refl)) (λ g. rw g (λ h. h))
+may-pinged : (t : List Entry) (p : Entry) → mayWait t p ≡ true → (isProved (p .proof) || isOut (p .ping)) ≡ true
+may-pinged t p = byTest (isProved (p .proof)) (λ g. rw g (λ h. refl)) (λ g. rw g (λ h. h))
 
-may-unproved : (p : Entry) → mayWait false p ≡ true → isProved (p .proof) ≡ false
-may-unproved p = byTest (isProved (p .proof)) (λ g. rw g (λ h. cc)) (λ g. λ h. g)
+may-settled : (t : List Entry) (p : Entry) → mayWait t p ≡ true → isPromoted t p ≡ false
+may-settled t p = byTest (isProved (p .proof)) (λ g. rw g (λ h. not-true (mayTake t (p .endpoint)) h)) (λ g. rw g (λ h. refl))
 
-pinged-may : (p : Entry) → (isProved (p .proof) || isOut (p .ping)) ≡ true → mayWait true p ≡ true
-pinged-may p = byTest (isProved (p .proof)) (λ g. rw g (λ h. refl)) (λ g. rw g (λ h. h))
-
-unproved-may : (p : Entry) → ((isProved (p .proof) || isOut (p .ping)) ≡ true) × (isProved (p .proof) ≡ false) → mayWait false p ≡ true
-unproved-may p h =
-    let out : (isProved (p .proof) || isOut (p .ping)) ≡ true = h .0 in
-    rw (h .1) (rw (h .1) at out)
+settled-may : (t : List Entry) (p : Entry) → ((isProved (p .proof) || isOut (p .ping)) ≡ true) × (isPromoted t p ≡ false) → mayWait t p ≡ true
+settled-may t p =
+    byTest (isProved (p .proof))
+    (λ g. rw g (λ h. rw (h .1)))
+    (λ g. rw g (λ h. h .0))
 
 -- ---- a bucket
 
@@ -122,28 +120,33 @@ module _ (home : Bytes → Bool) (clock : ℕ) (m : Contents) where
       let l = m .entries ++ m .replacements in
       let each = all (entrySound home clock) l in
       let proved = all (λ p. isProved (p .proof)) (m .entries) in
-      let wait = all (mayWait (isFull m)) (m .replacements) in
-      let rest = and-right each (distinct l && (proved && wait)) h in
-      let rest′ = and-right (distinct l) (proved && wait) rest in
+      let ranges = rangesKept (m .entries) in
+      let wait = all (mayWait (m .entries)) (m .replacements) in
+      let rest = and-right each (distinct l && (proved && (ranges && wait))) h in
+      let rest′ = and-right (distinct l) (proved && (ranges && wait)) rest in
+      let rest″ = and-right proved (ranges && wait) rest′ in
       let sound : All (EntrySound home clock) l =
       All-imp (λ p. entrySound home clock p ≡ true) (EntrySound home clock) (entry-facts home clock) l
-      (all-true (entrySound home clock) l (and-left each (distinct l && (proved && wait)) h)) in
-      let waits = all-true (mayWait (isFull m)) (m .replacements) (and-right proved wait rest′) in
+      (all-true (entrySound home clock) l (and-left each (distinct l && (proved && (ranges && wait))) h)) in
+      let waits = all-true (mayWait (m .entries)) (m .replacements) (and-right ranges wait rest″) in
       record {
         entries-sound = All-left (EntrySound home clock) (m .entries) (m .replacements) sound;
         replacements-sound = All-right (EntrySound home clock) (m .entries) (m .replacements) sound;
         once = λ key.
-            simp (select-append, length-append) at (distinct-once l (and-left (distinct l) (proved && wait) rest) key);
+            simp (select-append, length-append) at (distinct-once l (and-left (distinct l) (proved && (ranges && wait)) rest) key);
         entries-bound = few;
         replacements-bound = few′;
-        entries-proved = all-true (λ p. isProved (p .proof)) (m .entries) (and-left proved wait rest′);
+        entries-proved = all-true (λ p. isProved (p .proof)) (m .entries) (and-left proved (ranges && wait) rest′);
         unproved-pinged =
-            All-imp (λ p. mayWait (isFull m) p ≡ true) (λ p. (isProved (p .proof) || isOut (p .ping)) ≡ true) (may-pinged (isFull m))
+            All-imp (λ p. mayWait (m .entries) p ≡ true) (λ p. (isProved (p .proof) || isOut (p .ping)) ≡ true) (may-pinged (m .entries))
             (m .replacements) waits;
-        full = λ f.
-            let not-full : isFull m ≡ false = ne-eqb (length (m .entries)) maxEntries (λ e. omega arith) in
-            All-imp (λ p. mayWait false p ≡ true) (λ p. isProved (p .proof) ≡ false) may-unproved
-            (m .replacements) (rw not-full at waits);
+        ranges =
+            All-imp (λ p. leb (rangeCount (p .endpoint) (m .entries)) maxOfRange ≡ true) (λ p. rangeCount (p .endpoint) (m .entries) ≤ maxOfRange)
+            (λ p g. leb-true (rangeCount (p .endpoint) (m .entries)) maxOfRange g)
+            (m .entries) (all-true (λ p. leb (rangeCount (p .endpoint) (m .entries)) maxOfRange) (m .entries) (and-left ranges wait rest″));
+        settled =
+            All-imp (λ p. mayWait (m .entries) p ≡ true) (λ p. isPromoted (m .entries) p ≡ false) (may-settled (m .entries))
+            (m .replacements) waits;
       }
 
   pub sound-rules : BucketSound home clock m → keepsRules home clock m ≡ true
@@ -156,18 +159,12 @@ module _ (home : Bytes → Bool) (clock : ℕ) (m : Contents) where
             (All-append (EntrySound home clock) (m .entries) (m .replacements) (s .entries-sound) (s .replacements-sound))),
         once-distinct l (λ key. simp (select-append, length-append) (s .once key)),
         true-all (λ p. isProved (p .proof)) (m .entries) (s .entries-proved),
+        true-all (λ p. leb (rangeCount (p .endpoint) (m .entries)) maxOfRange) (m .entries)
+            (All-imp (λ p. rangeCount (p .endpoint) (m .entries) ≤ maxOfRange) (λ p. leb (rangeCount (p .endpoint) (m .entries)) maxOfRange ≡ true)
+            (λ p g. le-leb (rangeCount (p .endpoint) (m .entries)) maxOfRange g) (m .entries) (s .ranges)),
       )
-      (byTest (ltb (length (m .entries)) maxEntries)
-      (λ g.
-      let less = ltb-true (length (m .entries)) maxEntries g in
-      rw (ne-eqb (length (m .entries)) maxEntries (λ e. omega arith))
-      (true-all (mayWait false) (m .replacements)
-      (All-imp (λ p. ((isProved (p .proof) || isOut (p .ping)) ≡ true) × (isProved (p .proof) ≡ false)) (λ p. mayWait false p ≡ true) unproved-may
-      (m .replacements)
-      (All-and (λ p. (isProved (p .proof) || isOut (p .ping)) ≡ true) (λ p. isProved (p .proof) ≡ false) (m .replacements)
-      (s .unproved-pinged) (s .full less)))))
-      (λ g.
-      rw (eq-eqb (length (m .entries)) maxEntries (omega (arith, s .entries-bound, ltb-false (length (m .entries)) maxEntries g)))
-      (true-all (mayWait true) (m .replacements)
-      (All-imp (λ p. (isProved (p .proof) || isOut (p .ping)) ≡ true) (λ p. mayWait true p ≡ true) pinged-may
-      (m .replacements) (s .unproved-pinged)))))
+      (true-all (mayWait (m .entries)) (m .replacements)
+      (All-imp (λ p. ((isProved (p .proof) || isOut (p .ping)) ≡ true) × (isPromoted (m .entries) p ≡ false)) (λ p. mayWait (m .entries) p ≡ true)
+      (settled-may (m .entries)) (m .replacements)
+      (All-and (λ p. (isProved (p .proof) || isOut (p .ping)) ≡ true) (λ p. isPromoted (m .entries) p ≡ false) (m .replacements)
+      (s .unproved-pinged) (s .settled))))

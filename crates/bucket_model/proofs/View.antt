@@ -4,8 +4,6 @@ use mathlib.Core.Path.{_≡_, refl, ap, _∙_}
 use mathlib.Core.Bool.{Bool, true, false}
 use mathlib.Core.List.{List, [], _∷_, _++_, map, append-nil}
 use native.Mathlib.Omega.{arith}
-use borrow.Author.Tests.{lt-ltb, le-ltb}
-use lib.Dec.{ltb}
 use lib.ListN.{length}
 use Rattle.octets.specs.Octets.{Bytes, sameBytes}
 use Rattle.octets.proofs.Laws.{same-refl}
@@ -13,7 +11,7 @@ use Rattle.lists.specs.Lists.{select, empty}
 use Rattle.lists.proofs.Laws.{byTest, nil, empty-append, select-append, select-comm, length-select}
 use Rattle.entry.specs.declared.Entry.{Entry}
 use Rattle.bucket_model.specs.Contents.{Contents}
-use Rattle.bucket_model.specs.Rules.{maxEntries, isOf, ofKey, toTail, held, pinged, ponged, heard, newEntry, promoted, remaining, staysEntry, staysReplacement, freeAfter, onPingSent, onPong, onHeard, onSweep}
+use Rattle.bucket_model.specs.Rules.{isOf, ofKey, toTail, held, pinged, ponged, heard, newEntry, promoted, remaining, staysEntry, staysReplacement, takesEntry, onPingSent, onPong, onHeard, onSweep}
 use Rattle.bucket_model.proofs.Keys.{ofKey-ofKey, ofKey-without, ofKey-map, ofKey-update, ofKey-toTail, other-without, other-map, other-update, other-toTail, promoted-or-remaining}
 use Rattle.bucket_model.specs.Facts.{BucketSound}
 
@@ -50,7 +48,7 @@ module _ (X key : Bytes) (d : sameBytes X key ≡ false) (now : ℕ) (b : Conten
   pub other-pong : SameAs X b (onPong now key b)
   unfolding onPong
   other-pong =
-      byTest (ltb (length (b .entries)) maxEntries)
+      byTest (takesEntry key b)
       (λ g. rw g (record {
         entries =
             select-append (isOf X) (toTail key (ponged now) (b .entries)) (map (ponged now) (ofKey key (b .replacements)))
@@ -77,22 +75,22 @@ module _ (now : ℕ) (key : Bytes) (b : Contents) where
         replacements = ofKey-update (heard now) (λ p. refl) key (b .replacements);
       }
 
-  -- with no entry free, a replacement stays in line
-  pub own-pong-stays : maxEntries ≤ length (b .entries) → Mapped (ponged now) (onPong now key b)
+  -- a replacement that may not take an entry stays in line
+  pub own-pong-stays : takesEntry key b ≡ false → Mapped (ponged now) (onPong now key b)
   unfolding onPong
   own-pong-stays h =
-      rw (le-ltb (length (b .entries)) maxEntries h)
+      rw h
       (record {
         entries = ofKey-toTail (ponged now) (λ p. refl) key (b .entries);
         replacements = ofKey-update (ponged now) (λ p. refl) key (b .replacements);
       })
 
-  -- with one free, it takes it
-  pub own-pong-takes : length (b .entries) < maxEntries
+  -- one that may takes it
+  pub own-pong-takes : takesEntry key b ≡ true
       → Holds key (onPong now key b) (map (ponged now) (ofKey key (b .entries)) ++ map (ponged now) (ofKey key (b .replacements))) []
   unfolding onPong
   own-pong-takes h =
-      rw (lt-ltb (length (b .entries)) maxEntries h)
+      rw h
       (record {
         entries =
             select-append (isOf key) (toTail key (ponged now) (b .entries)) (map (ponged now) (ofKey key (b .replacements)))
@@ -127,19 +125,22 @@ module _ (now : ℕ) (key : Bytes) (b : Contents) where
 
 -- ---- a sweep
 
--- the replacements that a sweep keeps
+-- the entries and the replacements that a sweep keeps
+abbrev pub keptEntries : ℕ → Contents → List Entry
+keptEntries now b = select (staysEntry now) (b .entries)
+
 abbrev pub keptReplacements : ℕ → Contents → List Entry
 keptReplacements now b = select (staysReplacement now) (b .replacements)
 
 module _ (X : Bytes) (now : ℕ) (b : Contents) where
   pub own-sweep : Holds X (onSweep now b)
-      (select (staysEntry now) (ofKey X (b .entries)) ++ ofKey X (promoted (freeAfter now b) (keptReplacements now b)))
-      (ofKey X (remaining (freeAfter now b) (keptReplacements now b)))
+      (select (staysEntry now) (ofKey X (b .entries)) ++ ofKey X (promoted (keptEntries now b) (keptReplacements now b)))
+      (ofKey X (remaining (keptEntries now b) (keptReplacements now b)))
   unfolding onSweep
   own-sweep =
       record {
         entries =
-            select-append (isOf X) (select (staysEntry now) (b .entries)) (promoted (freeAfter now b) (keptReplacements now b))
+            select-append (isOf X) (select (staysEntry now) (b .entries)) (promoted (keptEntries now b) (keptReplacements now b))
             ∙ rw (select-comm (isOf X) (staysEntry now) (b .entries));
         replacements = refl;
       }
@@ -152,11 +153,11 @@ module _ (X : Bytes) (now : ℕ) (b : Contents) where
   pub sweep-entry : (home : Bytes → Bool) (clock : ℕ) → BucketSound home clock b → 0 < length (ofKey X (b .entries))
       → ofKey X (onSweep now b .entries) ≡ select (staysEntry now) (ofKey X (b .entries))
   sweep-entry home clock ok has =
-      let none : ofKey X (promoted (freeAfter now b) (keptReplacements now b)) ≡ [] =
-      nil (ofKey X (promoted (freeAfter now b) (keptReplacements now b)))
+      let none : ofKey X (promoted (keptEntries now b) (keptReplacements now b)) ≡ [] =
+      nil (ofKey X (promoted (keptEntries now b) (keptReplacements now b)))
       (omega (
         arith,
-        promoted-or-remaining X (freeAfter now b) (keptReplacements now b),
+        promoted-or-remaining X (keptEntries now b) (keptReplacements now b),
         ap length ofKey-kept,
         length-select (staysReplacement now) (ofKey X (b .replacements)),
         ok .once X,

@@ -2,6 +2,7 @@
 use Prim.Native.Nat.{ℕ, _+_, _<_, _≤_}
 use mathlib.Core.Path.{_≡_}
 use mathlib.Core.Bool.{Bool, true, false, _||_}
+use mathlib.Core.List.{List}
 use lib.ListN.{length}
 use Rattle.octets.specs.Octets.{Bytes}
 use Rattle.lists.specs.Lists.{All}
@@ -12,7 +13,7 @@ use Rattle.entry.specs.declared.PingState.{PingState}
 use Rattle.entry.specs.declared.PingState.the-variants.{Quiet, Out}
 use Rattle.entry.specs.Values.{IsEntry}
 use Rattle.bucket_model.specs.Contents.{Contents}
-use Rattle.bucket_model.specs.Rules.{maxEntries, maxReplacements, ofKey, isProved, isOut}
+use Rattle.bucket_model.specs.Rules.{maxEntries, maxReplacements, maxOfRange, ofKey, isProved, isOut, rangeCount, isPromoted}
 use Rattle.bucket_model.specs.Sound.{addressForm}
 
 -- P holds of every entry and of every replacement
@@ -43,6 +44,14 @@ pub record EntrySound (home : Bytes → Bool) (clock : ℕ) (p : Entry) : Type 0
   pub ping-by : PingBy clock (p .ping)
   pub address-form : addressForm (p .endpoint) ≡ true
 
+-- "at most two seats of a range" (C-16)
+abbrev pub RangesKept : List Entry → Type 0
+RangesKept l = All (λ p. rangeCount (p .endpoint) l ≤ maxOfRange) l
+
+-- beside these entries there is "a free seat and, for a 4-byte address, fewer than two seats of its range" for X, as it stands in this line
+abbrev pub SeatFor : Bytes → List Entry → List Entry → Type 0
+SeatFor X taken line = (length taken < maxEntries) × All (λ p. rangeCount (p .endpoint) taken < maxOfRange) (ofKey X line)
+
 pub record BucketSound (home : Bytes → Bool) (clock : ℕ) (m : Contents) : Type 0 where
   pub entries-sound : All (EntrySound home clock) (m .entries)
   pub replacements-sound : All (EntrySound home clock) (m .replacements)
@@ -52,5 +61,6 @@ pub record BucketSound (home : Bytes → Bool) (clock : ℕ) (m : Contents) : Ty
   pub replacements-bound : length (m .replacements) ≤ maxReplacements
   pub entries-proved : All (λ p. isProved (p .proof) ≡ true) (m .entries)
   pub unproved-pinged : All (λ p. (isProved (p .proof) || isOut (p .ping)) ≡ true) (m .replacements)
-  -- proved replacements only where every entry is taken
-  pub full : length (m .entries) < maxEntries → All (λ p. isProved (p .proof) ≡ false) (m .replacements)
+  pub ranges : RangesKept (m .entries)
+  -- no proved replacement that may take an entry
+  pub settled : All (λ p. isPromoted (m .entries) p ≡ false) (m .replacements)

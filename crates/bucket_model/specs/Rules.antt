@@ -4,7 +4,7 @@ use mathlib.Core.Bool.{Bool, true, false, cond, not, _&&_, _||_}
 use mathlib.Core.List.{List, [], _∷_, _++_, map}
 use lib.Dec.{leb, ltb, eqb}
 use lib.ListN.{length, replicate}
-use Rattle.octets.specs.Octets.{Bytes, sameBytes}
+use Rattle.octets.specs.Octets.{Bytes, part, sameBytes}
 use Rattle.lists.specs.Lists.{select, any, empty}
 use Rattle.node.specs.declared.MonotonicMillis.{MonotonicMillis}
 use Rattle.node.specs.declared.Endpoint.{Endpoint}
@@ -22,6 +22,10 @@ maxEntries = 16
 
 abbrev pub maxReplacements : ℕ
 maxReplacements = 4
+
+-- document 02, C-16: at most two entries of a bucket may be of one range
+abbrev pub maxOfRange : ℕ
+maxOfRange = 2
 
 -- a pong is in time up to and including 500 ms after its ping
 abbrev pub pingTimeout : ℕ
@@ -56,6 +60,23 @@ toTail key f l = without key l ++ map f (ofKey key l)
 -- where a node is held: at most one entry of a sound bucket
 abbrev pub held : Bytes → Contents → List Entry
 held key b = ofKey key (b .entries) ++ ofKey key (b .replacements)
+
+-- ---- ranges (document 02, C-16): "4-byte addresses with the same first three bytes (a range); 16-byte addresses aren't counted"
+
+abbrev pub sameRange : Endpoint → Endpoint → Bool
+sameRange a b = eqb (a .len) 4 && (eqb (b .len) 4 && sameBytes (part (a .address) 0 3) (part (b .address) 0 3))
+
+-- how many of the entries are of the endpoint's range; of a 16-byte address none
+unfoldable pub rangeCount : Endpoint → List Entry → ℕ
+rangeCount a l = length (select (λ e. sameRange a (e .endpoint)) l)
+
+-- its range has two entries
+abbrev pub rangeFull : List Entry → Endpoint → Bool
+rangeFull l a = leb maxOfRange (rangeCount a l)
+
+-- a replacement may take an entry beside these: one is free, and its range has fewer than two
+unfoldable pub mayTake : List Entry → Endpoint → Bool
+mayTake l a = ltb (length l) maxEntries && not (rangeFull l a)
 
 -- ---- tests of an entry; times are compared by their difference
 
@@ -151,10 +172,14 @@ onPingSent now key address udp tcp hash b =
     (record { entries = b .entries; replacements = b .replacements ++ (newEntry now key address udp tcp hash ∷ []) })
     (record { entries = update key (pinged now hash) (b .entries); replacements = update key (pinged now hash) (b .replacements) })
 
--- Pong: an entry goes to the tail; a replacement takes a free entry there, else stays in line.
+-- the replacement of a key may take an entry
+abbrev pub takesEntry : Bytes → Contents → Bool
+takesEntry key b = any (λ e. mayTake (b .entries) (e .endpoint)) (ofKey key (b .replacements))
+
+-- Pong: an entry goes to the tail; a replacement that may takes an entry there, else it stays in line.
 unfoldable pub onPong : ℕ → Bytes → Contents → Contents
 onPong now key b =
-    cond (ltb (length (b .entries)) maxEntries)
+    cond (takesEntry key b)
     (record {
       entries = toTail key (ponged now) (b .entries) ++ map (ponged now) (ofKey key (b .replacements));
       replacements = without key (b .replacements);
@@ -172,25 +197,27 @@ staysEntry now e = not (isOverdue now (e .ping))
 abbrev pub staysReplacement : ℕ → Entry → Bool
 staysReplacement now e = not (isOverdue now (e .ping)) && not (proofExpired now (e .proof))
 
--- of a line of replacements, the first proved ones, at most `free` of them; and those that stay
-abbrev pub promoted : ℕ → List Entry → List Entry
-promoted free [] = []
-promoted free (e ∷ line) = cond (isProved (e .proof) && ltb 0 free) (e ∷ promoted (free - 1) line) (promoted free line)
+-- a replacement is promoted in its turn, where these entries are taken
+abbrev pub isPromoted : List Entry → Entry → Bool
+isPromoted taken e = isProved (e .proof) && mayTake taken (e .endpoint)
 
-abbrev pub remaining : ℕ → List Entry → List Entry
-remaining free [] = []
-remaining free (e ∷ line) = cond (isProved (e .proof) && ltb 0 free) (remaining (free - 1) line) (e ∷ remaining free line)
+-- of a line of replacements, each in its turn: the proved ones that take an entry behind those taken, and those that stay. A node whose
+-- range has two entries is passed over.
+abbrev pub promoted : List Entry → List Entry → List Entry
+promoted taken [] = []
+promoted taken (e ∷ line) =
+    cond (isPromoted taken e) (e ∷ promoted (taken ++ (e ∷ [])) line) (promoted taken line)
 
--- the free entries after the sweep's removals
-abbrev pub freeAfter : ℕ → Contents → ℕ
-freeAfter now b = maxEntries - length (select (staysEntry now) (b .entries))
+abbrev pub remaining : List Entry → List Entry → List Entry
+remaining taken [] = []
+remaining taken (e ∷ line) =
+    cond (isPromoted taken e) (remaining (taken ++ (e ∷ [])) line) (e ∷ remaining taken line)
 
 unfoldable pub onSweep : ℕ → Contents → Contents
 onSweep now b =
-    record {
-      entries = select (staysEntry now) (b .entries) ++ promoted (freeAfter now b) (select (staysReplacement now) (b .replacements));
-      replacements = remaining (freeAfter now b) (select (staysReplacement now) (b .replacements));
-    }
+    let kept = select (staysEntry now) (b .entries) in
+    let line = select (staysReplacement now) (b .replacements) in
+    record { entries = kept ++ promoted kept line; replacements = remaining kept line }
 
 -- ---- what an accepted datagram's answer tells of the bucket as it was given
 
@@ -206,3 +233,7 @@ hasEntry key b = not (empty (ofKey key (b .entries)))
 
 abbrev pub freeEntry : Contents → Bool
 freeEntry b = ltb (length (b .entries)) maxEntries
+
+-- the range of the sender of a pong has two entries
+abbrev pub rangeTaken : Bytes → Contents → Bool
+rangeTaken key b = any (λ e. rangeFull (b .entries) (e .endpoint)) (ofKey key (b .replacements))

@@ -1,6 +1,6 @@
 -- When a bucket is sound, as a test that can be run (document 01, "Sound means exactly").
 use Prim.Native.Nat.{ℕ}
-use mathlib.Core.Bool.{Bool, true, false, not, _&&_, _||_}
+use mathlib.Core.Bool.{Bool, true, false, cond, not, _&&_, _||_}
 use mathlib.Core.List.{List, [], _∷_, _++_}
 use lib.Dec.{eqb, leb}
 use lib.ListN.{length, getD, replicate}
@@ -13,7 +13,7 @@ use Rattle.entry.specs.declared.EndpointProof.the-variants.{Unproved, At}
 use Rattle.entry.specs.declared.PingState.{PingState}
 use Rattle.entry.specs.declared.PingState.the-variants.{Quiet, Out}
 use Rattle.bucket_model.specs.Contents.{Contents, encodeBucket, decodeBucket}
-use Rattle.bucket_model.specs.Rules.{maxEntries, maxReplacements, isOf, isProved, isOut}
+use Rattle.bucket_model.specs.Rules.{maxEntries, maxReplacements, maxOfRange, rangeCount, mayTake, isOf, isProved, isOut}
 
 -- "no time above the table's clock"
 abbrev pub proofBy : ℕ → EndpointProof → Bool
@@ -35,24 +35,26 @@ addressForm e = eqb (e .len) 16 || (eqb (e .len) 4 && sameBytes (part (e .addres
 unfoldable pub entrySound : (Bytes → Bool) → ℕ → Entry → Bool
 entrySound home clock e = home (e .key) && (inTime clock e && addressForm (e .endpoint))
 
--- "every unproved waiting node with a ping out, proved waiting nodes only where 16 seats are taken"
-abbrev pub mayWait : Bool → Entry → Bool
-mayWait full e = (isProved (e .proof) && full) || (not (isProved (e .proof)) && isOut (e .ping))
+-- "every unproved waiting node with a ping out"; C-16 "allows proved waiting nodes beside free seats only if their range is at two"
+abbrev pub mayWait : List Entry → Entry → Bool
+mayWait taken e = cond (isProved (e .proof)) (not (mayTake taken (e .endpoint))) (isOut (e .ping))
+
+-- C-16: "at most two seats of a range"
+abbrev pub rangesKept : List Entry → Bool
+rangesKept l = all (λ e. leb (rangeCount (e .endpoint) l) maxOfRange) l
 
 -- "keys distinct"
 unfoldable pub distinct : List Entry → Bool
 distinct [] = true
 distinct (e ∷ es) = not (any (isOf (e .key)) es) && distinct es
 
-abbrev pub isFull : Contents → Bool
-isFull m = eqb (length (m .entries)) maxEntries
-
 -- contents that keep every rule
 unfoldable pub keepsRules : (Bytes → Bool) → ℕ → Contents → Bool
 keepsRules home clock m =
     all (entrySound home clock) (m .entries ++ m .replacements)
     && (distinct (m .entries ++ m .replacements)
-    && (all (λ e. isProved (e .proof)) (m .entries) && all (mayWait (isFull m)) (m .replacements)))
+    && (all (λ e. isProved (e .proof)) (m .entries)
+    && (rangesKept (m .entries) && all (mayWait (m .entries)) (m .replacements))))
 
 -- bytes of a sound bucket: counts within bounds, the one byte form of what they hold, and the rules
 unfoldable pub sound : (Bytes → Bool) → ℕ → Bytes → Bool

@@ -11,7 +11,7 @@ use Rattle.lists.proofs.Laws.{byTest}
 use Rattle.entry.specs.declared.Entry.{Entry}
 use Rattle.entry.specs.Layout.{noEntry}
 use Rattle.bucket_model.specs.Contents.{Contents}
-use Rattle.bucket_model.specs.Rules.{isOf, ofKey, without, update, toTail, held, freeEntry, pinged, ponged, heard, newEntry, onPingSent, onPong, onHeard}
+use Rattle.bucket_model.specs.Rules.{isOf, ofKey, without, update, toTail, held, mayTake, takesEntry, pinged, ponged, heard, newEntry, onPingSent, onPong, onHeard}
 use Rattle.bucket_model.specs.Sound.{distinct}
 use Rattle.bucket.specs.declared.Position.{Position}
 use Rattle.bucket.specs.declared.Position.the-variants.{Absent, InEntries, InReplacements}
@@ -60,36 +60,29 @@ module _ (key : Bytes) (m : Contents) (l : Lookup) (h : distinct (m .entries ++ 
       rw (u .position, p, none-without key (m .entries) no, none, append-nil, changed key (m .replacements) i f (l .entry) x (in-second i p none)) refl)
       (λ p no no′. rw (u .position, p, none-without key (m .entries) no, none-of key (m .entries) no, append-nil, none-update key f (m .replacements) no′) refl)
 
-  pub promote-is :
-      cond (freeEntry m)
+  pub promote-is : ((p : Entry) → f p .endpoint ≡ p .endpoint)
+      → cond (takesEntry key m)
       (record {
         entries = toTail key f (m .entries) ++ map f (ofKey key (m .replacements));
         replacements = without key (m .replacements);
       })
       (record { entries = toTail key f (m .entries); replacements = update key f (m .replacements) })
       ≡ promoteAt (l .position) (f (l .entry)) m
-  promote-is =
-      byTest (freeEntry m)
-      (λ free.
+  promote-is same =
       located key m h
       (λ i p x no.
       let one : ofKey key (m .entries) ≡ l .entry ∷ [] = in-first i p (none-of key (m .replacements) no) in
-      rw (free, u .position, p, removed key (m .entries) i f (l .entry) x one, one, none-of key (m .replacements) no, append-nil, none-without key (m .replacements) no) refl)
+      rw (none-of key (m .replacements) no, u .position, p, removed key (m .entries) i f (l .entry) x one, one, none-update key f (m .replacements) no) refl)
       (λ i p no x.
       let none : ofKey key (m .entries) ≡ [] = none-of key (m .entries) no in
       let one : ofKey key (m .replacements) ≡ l .entry ∷ [] = in-second i p none in
-      rw (u .position, p, free, none-without key (m .entries) no, none, append-nil, one, removed key (m .replacements) i f (l .entry) x one) refl)
+      let at : mayTake (m .entries) (f (l .entry) .endpoint) ≡ mayTake (m .entries) (l .entry .endpoint) = ap (mayTake (m .entries)) (same (l .entry)) in
+      byTest (mayTake (m .entries) (l .entry .endpoint))
+      (λ may. rw (one, may, u .position, p, at ∙ may, none-without key (m .entries) no, none, append-nil, removed key (m .replacements) i f (l .entry) x one) refl)
+      (λ may-not.
+      rw (one, may-not, u .position, p, at ∙ may-not, none-without key (m .entries) no, none, append-nil, changed key (m .replacements) i f (l .entry) x one) refl))
       (λ p no no′.
-      rw (free, u .position, p, none-without key (m .entries) no, none-of key (m .entries) no, none-of key (m .replacements) no′, append-nil, append-nil, none-without key (m .replacements) no′) refl))
-      (λ full.
-      located key m h
-      (λ i p x no.
-      let one : ofKey key (m .entries) ≡ l .entry ∷ [] = in-first i p (none-of key (m .replacements) no) in
-      rw (full, u .position, p, removed key (m .entries) i f (l .entry) x one, one, none-update key f (m .replacements) no) refl)
-      (λ i p no x.
-      let none : ofKey key (m .entries) ≡ [] = none-of key (m .entries) no in
-      rw (u .position, p, full, none-without key (m .entries) no, none, append-nil, changed key (m .replacements) i f (l .entry) x (in-second i p none)) refl)
-      (λ p no no′. rw (full, u .position, p, none-without key (m .entries) no, none-of key (m .entries) no, append-nil, none-update key f (m .replacements) no′) refl))
+      rw (none-of key (m .replacements) no′, u .position, p, none-without key (m .entries) no, none-of key (m .entries) no, append-nil, none-update key f (m .replacements) no′) refl)
 
 -- ---- the rules
 
@@ -100,7 +93,7 @@ module _ (key : Bytes) (m : Contents) (l : Lookup) (now : ℕ) (h : distinct (m 
 
   pub pong-is : onPong now key m ≡ promoteAt (l .position) (ponged now (l .entry)) m
   unfolding onPong
-  pong-is = promote-is key m l h u (ponged now)
+  pong-is = promote-is key m l h u (ponged now) (λ p. refl)
 
   module _ (address hash : Bytes) (udp tcp : ℕ) where
     pub pinged-is : not (empty (found l)) ≡ true → onPingSent now key address udp tcp hash m ≡ putAt (l .position) (pinged now hash (l .entry)) m

@@ -4,11 +4,12 @@ use mathlib.Core.Bool.{Bool, true, false}
 use mathlib.Core.List.{List, [], _∷_, _++_}
 use Prim.Native.Nat.{ℕ, _≤_, _<_}
 use native.Mathlib.Omega.{arith}
-use borrow.Author.Tests.{ltb-true}
 use lib.ListN.{length, set}
+use Rattle.node.specs.declared.Endpoint.{Endpoint}
 use Rattle.entry.specs.declared.Entry.{Entry}
 use Rattle.bucket_model.specs.Contents.{Contents}
-use Rattle.bucket_model.specs.Rules.{freeEntry}
+use Rattle.bucket_model.specs.Rules.{mayTake}
+use Rattle.bucket_model.proofs.Ranges.{take-room}
 use Rattle.bucket.specs.declared.EntryList.{EntryList}
 use Rattle.bucket.specs.declared.Bucket.{Bucket}
 use Rattle.bucket.specs.declared.Position.{Position}
@@ -17,9 +18,9 @@ use Rattle.bucket.specs.Steps.{listed, Holds, removeAt, contents, Shows, InBoun
 use Rattle.bucket.proofs.Laws.{length-listed, holds-listed}
 use Rattle.bucket_rules.specs.Steps.{putAt, tailAt, promoteAt, joinLine}
 
--- a free entry is room for one more
-pub room-for-one : (b : Bucket) → length (b .entries .items) ≡ 16 → b .entries .len ≤ 16 → freeEntry (contents b) ≡ true → b .entries .len < 16
-room-for-one b n h free = omega (arith, length-listed (b .entries) n h, ltb-true (length (listed (b .entries))) 16 free)
+-- who may take an entry finds room
+pub room-for-one : (b : Bucket) (a : Endpoint) → length (b .entries .items) ≡ 16 → b .entries .len ≤ 16 → mayTake (listed (b .entries)) a ≡ true → b .entries .len < 16
+room-for-one b a n h may = omega (arith, length-listed (b .entries) n h, take-room (listed (b .entries)) a may)
 
 module _ (b : Bucket) (n : length (b .entries .items) ≡ 16) (k : length (b .replacements .items) ≡ 16) (h : InBounds b) where
   entries-held : Holds (b .entries) (listed (b .entries))
@@ -40,10 +41,10 @@ module _ (b : Bucket) (n : length (b .entries .items) ≡ 16) (k : length (b .re
   unchanged = record { entries = entries-held; replacements = replacements-held }
 
   module _ (i : ℕ) (e : Entry) where
-    pub promoted-free : (r q : EntryList) → freeEntry (contents b) ≡ true → Holds r (listed (b .entries) ++ (e ∷ [])) → Holds q (removeAt i (listed (b .replacements)))
+    pub promoted-free : (r q : EntryList) → mayTake (listed (b .entries)) (e .endpoint) ≡ true → Holds r (listed (b .entries) ++ (e ∷ [])) → Holds q (removeAt i (listed (b .replacements)))
         → Shows (record { entries = r; replacements = q }) (promoteAt (InReplacements i) e (contents b))
-    promoted-free r q free hr hq = rw free (record { entries = hr; replacements = hq })
+    promoted-free r q may hr hq = rw may (record { entries = hr; replacements = hq })
 
-    pub promoted-full : (q : EntryList) → freeEntry (contents b) ≡ false → Holds q (set (listed (b .replacements)) i e)
+    pub promoted-full : (q : EntryList) → mayTake (listed (b .entries)) (e .endpoint) ≡ false → Holds q (set (listed (b .replacements)) i e)
         → Shows (record { entries = b .entries; replacements = q }) (promoteAt (InReplacements i) e (contents b))
-    promoted-full q full hq = rw full (record { entries = entries-held; replacements = hq })
+    promoted-full q may-not hq = rw may-not (record { entries = entries-held; replacements = hq })

@@ -5,10 +5,7 @@ use mathlib.Core.List.{List, [], _∷_, _++_, append-assoc, append-nil}
 use Prim.Native.Nat.{ℕ, zero, suc, _+_, _-_, _≤_, _<_}
 use native.Mathlib.Nat.{add-zero}
 use native.Mathlib.Numerals.{add-one}
-use native.Mathlib.Decide.{decLt}
 use native.Mathlib.Omega.{arith}
-use borrow.Author.Tests.{lt-ltb, le-ltb}
-use lib.Dec.{ltb}
 use lib.ListN.{length, getD, take, set, length-append, length-set}
 use lib.Seq.{take-suc, take-suc-set, take-set-le, length-take-le}
 use Rattle.lists.specs.Lists.{select}
@@ -16,7 +13,7 @@ use Rattle.lists.proofs.Laws.{byTest, and-right, select-append}
 use Rattle.entry.specs.declared.Entry.{Entry}
 use Rattle.entry.specs.Layout.{noEntry}
 use Rattle.bucket_model.specs.Contents.{Contents}
-use Rattle.bucket_model.specs.Rules.{isProved, freeEntry, staysEntry, staysReplacement, promoted, remaining, onSweep}
+use Rattle.bucket_model.specs.Rules.{isProved, mayTake, isPromoted, staysEntry, staysReplacement, promoted, remaining, onSweep}
 use Rattle.bucket.specs.declared.EntryList.{EntryList}
 use Rattle.bucket.specs.declared.Bucket.{Bucket}
 use Rattle.bucket.specs.Steps.{listed, Holds, contents, Shows}
@@ -75,12 +72,12 @@ kept-done f l kept n h inv =
 -- ---- replacements take free entries
 
 module _ (b : Bucket) (e : Entry) (n : length (b .entries .items) ≡ 16) (k : length (b .replacements .items) ≡ 16) (h : b .entries .len ≤ 16) (g : b .replacements .len ≤ 16)
-    {proved free moves : Bool} (ep : proved ≡ isProved (e .proof)) (ef : free ≡ freeEntry (contents b)) (em : moves ≡ (proved && free)) where
-  test : moves ≡ (isProved (e .proof) && freeEntry (contents b))
+    {proved may moves : Bool} (ep : proved ≡ isProved (e .proof)) (ef : may ≡ mayTake (listed (b .entries)) (e .endpoint)) (em : moves ≡ (proved && may)) where
+  test : moves ≡ isPromoted (listed (b .entries)) e
   test = cc
 
   pub moves-free : moves ≡ true → b .entries .len < 16
-  moves-free t = room-for-one b n h (sym ef ∙ and-right proved free (sym em ∙ t))
+  moves-free t = room-for-one b (e .endpoint) n h (sym ef ∙ and-right proved may (sym em ∙ t))
 
   pub one-moves : (r : EntryList) → moves ≡ true → Holds r (listed (b .entries) ++ (e ∷ []))
       → Shows (record { entries = r; replacements = b .replacements }) (promoteOne (contents b) e)
@@ -106,7 +103,7 @@ promote-turn m es i b r h hb hr =
 
 one-line : (m : Contents) (e : Entry) → length (promoteOne m e .replacements) ≤ length (m .replacements) + 1
 one-line m e =
-    byTest (isProved (e .proof) && freeEntry m)
+    byTest (isPromoted (m .entries) e)
     (λ t. rw t (omega arith))
     (λ t. rw t (omega (arith, length-append (m .replacements) (e ∷ []))))
 
@@ -116,31 +113,15 @@ unfolding promoteAll
 promoteAll-line m [] = omega arith
 promoteAll-line m (e ∷ l) = omega (arith, promoteAll-line (promoteOne m e) l, one-line m e)
 
-free-by-count : (n : ℕ) → ltb n 16 ≡ ltb 0 (16 - n)
-free-by-count n = elim (decLt n 16) [
-  | yes h ↦ lt-ltb n 16 h ∙ sym (lt-ltb 0 (16 - n) (omega arith))
-  | no h ↦ le-ltb n 16 (omega arith) ∙ sym (le-ltb 0 (16 - n) (omega arith))
-]
-
 -- the replacements in line order: those that are promoted, and those that remain
 pub promoteAll-is : (m : Contents) (l : List Entry)
-    → promoteAll m l
-    ≡ record {
-      entries = m .entries ++ promoted (16 - length (m .entries)) l;
-      replacements = m .replacements ++ remaining (16 - length (m .entries)) l;
-    }
+    → promoteAll m l ≡ record { entries = m .entries ++ promoted (m .entries) l; replacements = m .replacements ++ remaining (m .entries) l }
 unfolding promoteAll
 promoteAll-is m [] = rw (append-nil (m .entries), append-nil (m .replacements)) refl
 promoteAll-is m (e ∷ l) =
-    let free : freeEntry m ≡ ltb 0 (16 - length (m .entries)) = free-by-count (length (m .entries)) in
-    byTest (isProved (e .proof) && freeEntry m)
-    (λ t.
-    let t′ : (isProved (e .proof) && ltb 0 (16 - length (m .entries))) ≡ true = ap (λ b. isProved (e .proof) && b) (sym free) ∙ t in
-    let k : 16 - length (m .entries ++ (e ∷ [])) ≡ 16 - length (m .entries) - 1 = simp length-append (omega arith) in
-    rw (t, t′) (promoteAll-is (record { entries = m .entries ++ (e ∷ []); replacements = m .replacements }) l ∙ rw (k, append-assoc) refl))
-    (λ t.
-    let t′ : (isProved (e .proof) && ltb 0 (16 - length (m .entries))) ≡ false = ap (λ b. isProved (e .proof) && b) (sym free) ∙ t in
-    rw (t, t′) (promoteAll-is (record { entries = m .entries; replacements = m .replacements ++ (e ∷ []) }) l ∙ rw append-assoc refl))
+    byTest (isPromoted (m .entries) e)
+    (λ t. rw t (promoteAll-is (record { entries = m .entries ++ (e ∷ []); replacements = m .replacements }) l ∙ rw append-assoc refl))
+    (λ t. rw t (promoteAll-is (record { entries = m .entries; replacements = m .replacements ++ (e ∷ []) }) l ∙ rw append-assoc refl))
 
 pub swept : (now : ℕ) (b r : Bucket) (entries line none : EntryList) → Holds entries (select (staysEntry now) (listed (b .entries)))
     → Holds line (select (staysReplacement now) (listed (b .replacements))) → Holds none []

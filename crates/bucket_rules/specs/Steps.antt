@@ -2,14 +2,14 @@
 -- stay, and one replacement promoted after the other.
 use Prim.Native.Nat.{ℕ, _<_}
 use mathlib.Core.Path.{_≡_}
-use mathlib.Core.Bool.{Bool, true, false, cond, _&&_}
+use mathlib.Core.Bool.{Bool, true, false, cond}
 use mathlib.Core.List.{List, [], _∷_, _++_}
 use lib.ListN.{length, getD, set}
 use Rattle.octets.specs.Octets.{Bytes}
 use Rattle.entry.specs.declared.Entry.{Entry}
 use Rattle.entry.specs.Layout.{noEntry}
 use Rattle.bucket_model.specs.Contents.{Contents}
-use Rattle.bucket_model.specs.Rules.{held, hasEntry, freeEntry, isProved, staysEntry, staysReplacement}
+use Rattle.bucket_model.specs.Rules.{held, hasEntry, mayTake, isPromoted, staysEntry, staysReplacement}
 use Rattle.bucket_model.specs.Sound.{distinct}
 use Rattle.bucket.specs.declared.Bucket.{Bucket}
 use Rattle.bucket.specs.declared.Position.{Position}
@@ -66,12 +66,12 @@ tailAt Absent e m = m
 tailAt (InEntries i) e m = record { entries = removeAt i (m .entries) ++ (e ∷ []); replacements = m .replacements }
 tailAt (InReplacements i) e m = record { entries = m .entries; replacements = set (m .replacements) i e }
 
--- the same, and a replacement takes a free entry at the tail
+-- the same, and a replacement that may takes an entry at the tail
 abbrev pub promoteAt : Position → Entry → Contents → Contents
 promoteAt Absent e m = m
 promoteAt (InEntries i) e m = record { entries = removeAt i (m .entries) ++ (e ∷ []); replacements = m .replacements }
 promoteAt (InReplacements i) e m =
-    cond (freeEntry m)
+    cond (mayTake (m .entries) (e .endpoint))
     (record { entries = m .entries ++ (e ∷ []); replacements = removeAt i (m .replacements) })
     (record { entries = m .entries; replacements = set (m .replacements) i e })
 
@@ -83,10 +83,10 @@ joinLine e m = record { entries = m .entries; replacements = m .replacements ++ 
 abbrev pub stays : Bool → ℕ → Entry → Bool
 stays waiting now e = cond waiting (staysReplacement now e) (staysEntry now e)
 
--- a replacement takes a free entry at the tail if it is proved, or stays in line
+-- a replacement takes an entry at the tail if it is proved and may, or stays in line
 abbrev pub promoteOne : Contents → Entry → Contents
 promoteOne m e =
-    cond (isProved (e .proof) && freeEntry m)
+    cond (isPromoted (m .entries) e)
     (record { entries = m .entries ++ (e ∷ []); replacements = m .replacements })
     (record { entries = m .entries; replacements = m .replacements ++ (e ∷ []) })
 

@@ -3,7 +3,7 @@ ghost use mathlib.Core.Path.{_≡_};
 ghost use mathlib.Core.Bool.{cond, not, _&&_, _||_};
 ghost use Prim.Native.Nat.{_≤_, _<_};
 ghost use Rattle.lists.specs.Lists.{select, any, empty};
-ghost use Rattle.bucket_model.specs.Rules.{onSweep, isOut, isOverdue, isAt, isVerified, isAwaited, onPingSent, onPong, onHeard};
+ghost use Rattle.bucket_model.specs.Rules.{onSweep, rangeFull, isOut, isOverdue, isAt, isVerified, isAwaited, onPingSent, onPong, onHeard};
 ghost use Rattle.bucket.specs.Steps.{listed, Holds, contents, Shows, InBounds};
 ghost use Rattle.bucket_rules.specs.Steps.{stays, promoteOne, promoteAll, Ready, found, inEntries, LooksUp, Within, EntryAt, putAt, tailAt, promoteAt, joinLine};
 ghost use lib.Dec.{leb};
@@ -53,7 +53,7 @@ fn count(b: bool) -> usize
     if b { 1 } else { 0 }
 }
 
-// A replacement takes a free entry at the tail if it is proved, or stays in line.
+// A replacement takes an entry at the tail if it is proved and may, or stays in line.
 fn promote_one(b: Bucket, e: Entry) -> Bucket
     requires { ⌜ (b .entries .len ≤ 16) × (b .replacements .len < 16) ⌝ }
     ensures { λ r. ⌜ Shows r (promoteOne (contents b) e) ⌝ }
@@ -61,8 +61,9 @@ fn promote_one(b: Bucket, e: Entry) -> Bucket
     let entries = b.entries;
     let replacements = b.replacements;
     let proof = e.proof;
+    let at = e.endpoint;
     let proved = bucket_entry::is_proved(proof);
-    let moves = bucket_entry::both(proved, b.free_entry());
+    let moves = bucket_entry::both(proved, bucket_range::may_take(entries, at));
     if moves {
         let moved = entries.push(e);
         return Bucket {
@@ -93,7 +94,7 @@ fn promote_all(b: Bucket, line: EntryList) -> Bucket
 }
 
 // Sweep: nodes that did not answer in time go, then replacements with an expired proof; then proved replacements take
-// free entries at the tail in line order.
+// free entries at the tail in line order, those whose range is full passed over.
 pub fn sweep(b: Bucket, clock: MonotonicMillis) -> Bucket
     requires { ⌜ InBounds b ⌝ }
     ensures { λ r. ⌜ Shows r (onSweep (clock .0) (contents b)) ⌝ }
@@ -207,6 +208,17 @@ impl Lookup {
         bucket_entry::both(!held, Bucket::REPLACEMENTS <= replacements)
     }
 
+    // Whether the node's range has all the entries that it may have.
+    pub fn range_full(self, entries: EntryList) -> bool
+        requires { ⌜ entries .len ≤ 16 ⌝ }
+        ensures { λ r. ⌜ r ≡ any (λ e. rangeFull (listed entries) (e .endpoint)) (found self) ⌝ }
+    {
+        let e = self.entry;
+        let at = e.endpoint;
+        let held = self.is_held();
+        bucket_entry::both(held, bucket_range::range_full(entries, at))
+    }
+
     // Whether the node is an entry already.
     pub fn has_entry(self) -> bool
         ensures { λ r. ⌜ r ≡ inEntries (self .position) ⌝ }
@@ -299,7 +311,8 @@ fn promote(b: Bucket, i: usize, e: Entry) -> Bucket
 {
     let entries = b.entries;
     let replacements = b.replacements;
-    if b.free_entry() {
+    let at = e.endpoint;
+    if bucket_range::may_take(entries, at) {
         let seated = entries.push(e);
         let replacements = replacements.remove(i);
         return Bucket {
@@ -366,7 +379,7 @@ pub fn ping_sent(
     )
 }
 
-// Pong: an entry goes to the tail; a replacement takes a free entry there, else stays in line.
+// Pong: an entry goes to the tail; a replacement that may takes an entry there, else stays in line.
 pub fn pong(b: Bucket, l: Lookup, key: &[u8], clock: MonotonicMillis) -> Bucket
     requires { ⌜ Ready b × LooksUp (now key) (contents b) l ⌝ }
     ensures { λ r. ⌜ Shows r (onPong (clock .0) (now (key .entry)) (contents b)) ⌝ }

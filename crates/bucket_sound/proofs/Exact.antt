@@ -17,11 +17,11 @@ use Rattle.entry.specs.declared.Stamp.{Stamp}
 use Rattle.entry.specs.Layout.{decodeEntry, decodeEndpoint, decodeStamp, proofOf, pingOf}
 use Rattle.entry.proofs.Laws.{decode-entry}
 use Rattle.bucket_model.specs.Contents.{entriesAt, encodeBucket, decodeBucket}
-use Rattle.bucket_model.specs.Rules.{isOf, isProved, isOut}
-use Rattle.bucket_model.specs.Sound.{proofBy, pingBy, inTime, addressForm, entrySound, mayWait, distinct, keepsRules, sound}
-use Rattle.bucket_model.proofs.ByteForm.{length-entriesAt}
+use Rattle.bucket_model.specs.Rules.{isOf, isProved, isOut, isPromoted}
+use Rattle.bucket_model.specs.Sound.{proofBy, pingBy, inTime, addressForm, entrySound, mayWait, rangesKept, distinct, keepsRules, sound}
+use Rattle.bucket_model.proofs.ByteForm.{entriesAt-part}
 use Rattle.bucket_sound.specs.Steps.{stampForm, stampBy, mayStand, recordSound, allRecords, keysApart}
-use Rattle.bucket_sound.proofs.Tests.{both-ways, and-intro, and-same, and-true, or-false, not-or, all-append, all-same}
+use Rattle.bucket_sound.proofs.Tests.{both-ways, and-intro, and-same, and-true, not-or, all-append, all-same}
 use Rattle.bucket_sound.proofs.Forms.{entry-form, isForm, unused, bucket-form}
 use Rattle.bucket_sound.proofs.Steps.{allRecords-part, keysApart-part}
 
@@ -135,8 +135,22 @@ module _ (home : Bytes → Bool) (clock : ℕ) (proved unproved : Bool) where
 stands-entry : (e : Entry) → mayStand true false e ≡ isProved (e .proof)
 stands-entry e = byTest (isProved (e .proof)) (λ t. rw t refl) (λ t. rw t refl)
 
-stands-waiting : (full : Bool) (e : Entry) → mayStand full true e ≡ mayWait full e
-stands-waiting full e = byTest (isProved (e .proof)) (λ t. rw t (sym (or-false full))) (λ t. rw t refl)
+stands-waiting : (taken : List Entry) (e : Entry) → mayWait taken e ≡ (mayStand true true e && not (isPromoted taken e))
+stands-waiting taken e =
+    byTest (isProved (e .proof)) (λ t. rw t refl) (λ t. rw t (sym (and-true (isOut (e .ping)))))
+
+all-both : {A : Type 0} (q r : A → Bool) (l : List A) → all (λ a. q a && r a) l ≡ (all q l && all r l)
+all-both q r [] = refl
+all-both q r (a ∷ l) = ap (λ t. (q a && r a) && t) (all-both q r l) ∙ four (q a) (r a) (all q l) (all r l)
+  where
+    four : (x y z w : Bool) → ((x && y) && (z && w)) ≡ ((x && z) && (y && w))
+    four true y z w = swap y z w
+      where
+        swap : (y z w : Bool) → (y && (z && w)) ≡ (z && (y && w))
+        swap true z w = refl
+        swap false true w = refl
+        swap false false w = refl
+    four false y z w = refl
 
 -- ---- keys
 
@@ -168,40 +182,53 @@ alone s other m at = ap distinct (sym (append-nil (entriesAt s other m))) ∙ ke
 
 -- ---- the bucket
 
-regroup : (f₁ z₁ f₂ z₂ a₁ a₂ k₁ k₂ p₁ p₂ : Bool)
-    → (((f₁ && z₁) && (f₂ && z₂)) && ((a₁ && a₂) && ((k₁ && k₂) && (p₁ && p₂))))
-    ≡ (((z₁ && z₂) && (k₁ && k₂)) && ((f₁ && (a₁ && p₁)) && (f₂ && (a₂ && p₂))))
-regroup f₁ z₁ f₂ z₂ a₁ a₂ k₁ k₂ p₁ p₂ =
-    both-ways (((f₁ && z₁) && (f₂ && z₂)) && ((a₁ && a₂) && ((k₁ && k₂) && (p₁ && p₂)))) (((z₁ && z₂) && (k₁ && k₂)) && ((f₁ && (a₁ && p₁)) && (f₂ && (a₂ && p₂))))
+regroup : (f₁ z₁ f₂ z₂ a₁ a₂ k₁ k₂ p₁ p₂ g w : Bool)
+    → (((f₁ && z₁) && (f₂ && z₂)) && ((a₁ && a₂) && ((k₁ && k₂) && (p₁ && (g && (p₂ && w))))))
+    ≡ ((((z₁ && z₂) && (k₁ && k₂)) && (g && w)) && ((f₁ && (a₁ && p₁)) && (f₂ && (a₂ && p₂))))
+regroup f₁ z₁ f₂ z₂ a₁ a₂ k₁ k₂ p₁ p₂ g w =
+    both-ways (((f₁ && z₁) && (f₂ && z₂)) && ((a₁ && a₂) && ((k₁ && k₂) && (p₁ && (g && (p₂ && w))))))
+    ((((z₁ && z₂) && (k₁ && k₂)) && (g && w)) && ((f₁ && (a₁ && p₁)) && (f₂ && (a₂ && p₂))))
     (λ e.
-    let l = and-left ((f₁ && z₁) && (f₂ && z₂)) ((a₁ && a₂) && ((k₁ && k₂) && (p₁ && p₂))) e in
-    let r = and-right ((f₁ && z₁) && (f₂ && z₂)) ((a₁ && a₂) && ((k₁ && k₂) && (p₁ && p₂))) e in
+    let l = and-left ((f₁ && z₁) && (f₂ && z₂)) ((a₁ && a₂) && ((k₁ && k₂) && (p₁ && (g && (p₂ && w))))) e in
+    let r = and-right ((f₁ && z₁) && (f₂ && z₂)) ((a₁ && a₂) && ((k₁ && k₂) && (p₁ && (g && (p₂ && w))))) e in
     let fz₁ = and-left (f₁ && z₁) (f₂ && z₂) l in
     let fz₂ = and-right (f₁ && z₁) (f₂ && z₂) l in
-    let a = and-left (a₁ && a₂) ((k₁ && k₂) && (p₁ && p₂)) r in
-    let kp = and-right (a₁ && a₂) ((k₁ && k₂) && (p₁ && p₂)) r in
-    let k = and-left (k₁ && k₂) (p₁ && p₂) kp in
-    let p = and-right (k₁ && k₂) (p₁ && p₂) kp in
-    and-intro (and-intro (and-intro (and-right f₁ z₁ fz₁) (and-right f₂ z₂ fz₂)) k)
-    (and-intro (and-intro (and-left f₁ z₁ fz₁) (and-intro (and-left a₁ a₂ a) (and-left p₁ p₂ p))) (and-intro (and-left f₂ z₂ fz₂) (and-intro (and-right a₁ a₂ a) (and-right p₁ p₂ p)))))
+    let a = and-left (a₁ && a₂) ((k₁ && k₂) && (p₁ && (g && (p₂ && w)))) r in
+    let kp = and-right (a₁ && a₂) ((k₁ && k₂) && (p₁ && (g && (p₂ && w)))) r in
+    let k = and-left (k₁ && k₂) (p₁ && (g && (p₂ && w))) kp in
+    let p = and-right (k₁ && k₂) (p₁ && (g && (p₂ && w))) kp in
+    let gpw = and-right p₁ (g && (p₂ && w)) p in
+    let pw = and-right g (p₂ && w) gpw in
+    and-intro
+    (and-intro (and-intro (and-intro (and-right f₁ z₁ fz₁) (and-right f₂ z₂ fz₂)) k) (and-intro (and-left g (p₂ && w) gpw) (and-right p₂ w pw)))
+    (and-intro (and-intro (and-left f₁ z₁ fz₁) (and-intro (and-left a₁ a₂ a) (and-left p₁ (g && (p₂ && w)) p)))
+    (and-intro (and-left f₂ z₂ fz₂) (and-intro (and-right a₁ a₂ a) (and-left p₂ w pw)))))
     (λ e.
-    let l = and-left ((z₁ && z₂) && (k₁ && k₂)) ((f₁ && (a₁ && p₁)) && (f₂ && (a₂ && p₂))) e in
-    let r = and-right ((z₁ && z₂) && (k₁ && k₂)) ((f₁ && (a₁ && p₁)) && (f₂ && (a₂ && p₂))) e in
-    let z = and-left (z₁ && z₂) (k₁ && k₂) l in
-    let k = and-right (z₁ && z₂) (k₁ && k₂) l in
+    let l = and-left (((z₁ && z₂) && (k₁ && k₂)) && (g && w)) ((f₁ && (a₁ && p₁)) && (f₂ && (a₂ && p₂))) e in
+    let r = and-right (((z₁ && z₂) && (k₁ && k₂)) && (g && w)) ((f₁ && (a₁ && p₁)) && (f₂ && (a₂ && p₂))) e in
+    let zk = and-left ((z₁ && z₂) && (k₁ && k₂)) (g && w) l in
+    let gw = and-right ((z₁ && z₂) && (k₁ && k₂)) (g && w) l in
+    let z = and-left (z₁ && z₂) (k₁ && k₂) zk in
+    let k = and-right (z₁ && z₂) (k₁ && k₂) zk in
     let r₁ = and-left (f₁ && (a₁ && p₁)) (f₂ && (a₂ && p₂)) r in
     let r₂ = and-right (f₁ && (a₁ && p₁)) (f₂ && (a₂ && p₂)) r in
     let ap₁ = and-right f₁ (a₁ && p₁) r₁ in
     let ap₂ = and-right f₂ (a₂ && p₂) r₂ in
     and-intro (and-intro (and-intro (and-left f₁ (a₁ && p₁) r₁) (and-left z₁ z₂ z)) (and-intro (and-left f₂ (a₂ && p₂) r₂) (and-right z₁ z₂ z)))
-    (and-intro (and-intro (and-left a₁ p₁ ap₁) (and-left a₂ p₂ ap₂)) (and-intro k (and-intro (and-right a₁ p₁ ap₁) (and-right a₂ p₂ ap₂)))))
+    (and-intro (and-intro (and-left a₁ p₁ ap₁) (and-left a₂ p₂ ap₂))
+    (and-intro k (and-intro (and-right a₁ p₁ ap₁) (and-intro (and-left g w gw) (and-intro (and-right a₂ p₂ ap₂) (and-right g w gw)))))))
+
+-- who of a line may not take an entry beside these
+abbrev settledBy : List Entry → List Entry → Bool
+settledBy taken line = all (λ e. not (isPromoted taken e)) line
 
 module _ (home : Bytes → Bool) (clock : ℕ) where
   keeps-is : (s : Bytes) (n m : ℕ)
       → keepsRules home clock (record { entries = entriesAt s 2 n; replacements = entriesAt s 2290 m })
       ≡ ((all (entrySound home clock) (entriesAt s 2 n) && all (entrySound home clock) (entriesAt s 2290 m))
       && ((keysApart s 2 n 2290 m && keysApart s 2290 m 2290 0)
-      && (all (mayStand true false) (entriesAt s 2 n) && all (mayStand (eqb n 16) true) (entriesAt s 2290 m))))
+      && (all (mayStand true false) (entriesAt s 2 n)
+      && (rangesKept (entriesAt s 2 n) && (all (mayStand true true) (entriesAt s 2290 m) && settledBy (entriesAt s 2 n) (entriesAt s 2290 m))))))
   unfolding keepsRules
   keeps-is s n m =
       let es : List Entry = entriesAt s 2 n in
@@ -210,17 +237,18 @@ module _ (home : Bytes → Bool) (clock : ℕ) where
       keys-are s 2 n 2290 m ∙ ap (λ t. keysApart s 2 n 2290 m && t) (alone s 2290 m 2290) in
       let stand : all (λ e. isProved (e .proof)) es ≡ all (mayStand true false) es =
       all-same (λ e. isProved (e .proof)) (mayStand true false) (λ e. sym (stands-entry e)) es in
-      let wait : all (mayWait (eqb (length es) 16)) rs ≡ all (mayStand (eqb n 16) true) rs =
-      ap (λ k. all (mayWait (eqb k 16)) rs) (length-entriesAt s 2 n)
-      ∙ all-same (mayWait (eqb n 16)) (mayStand (eqb n 16) true) (λ e. sym (stands-waiting (eqb n 16) e)) rs in
+      let wait : all (mayWait es) rs ≡ (all (mayStand true true) rs && settledBy es rs) =
+      all-same (mayWait es) (λ e. mayStand true true e && not (isPromoted es e)) (stands-waiting es) rs
+      ∙ all-both (mayStand true true) (λ e. not (isPromoted es e)) rs in
       rw (all-append (entrySound home clock) es rs, keys, stand, wait) refl
 
   -- the tests of `sound`, on the bucket's own bytes
   whole-is : (s : Bytes) → length s ≡ 2862 → IsBytes s → getD s 0 0 ≤ 16 → getD s 1 0 ≤ 4
       → sound home clock s
-      ≡ (((unused s (2 + getD s 0 0 * 143) ((16 - getD s 0 0) * 143) && unused s (2290 + getD s 1 0 * 143) ((4 - getD s 1 0) * 143))
+      ≡ ((((unused s (2 + getD s 0 0 * 143) ((16 - getD s 0 0) * 143) && unused s (2290 + getD s 1 0 * 143) ((4 - getD s 1 0) * 143))
       && (keysApart s 2 (getD s 0 0) 2290 (getD s 1 0) && keysApart s 2290 (getD s 1 0) 2290 0))
-      && (allRecords (recordSound home clock true false) s 2 (getD s 0 0) && allRecords (recordSound home clock (eqb (getD s 0 0) 16) true) s 2290 (getD s 1 0)))
+      && (rangesKept (entriesAt s 2 (getD s 0 0)) && settledBy (entriesAt s 2 (getD s 0 0)) (entriesAt s 2290 (getD s 1 0))))
+      && (allRecords (recordSound home clock true false) s 2 (getD s 0 0) && allRecords (recordSound home clock true true) s 2290 (getD s 1 0)))
   unfolding sound decodeBucket
   whole-is s h b ln lm =
       let n : ℕ = getD s 0 0 in
@@ -232,15 +260,16 @@ module _ (home : Bytes → Bool) (clock : ℕ) where
       ((allRecords isForm s 2 n && unused s (2 + n * 143) ((16 - n) * 143)) && (allRecords isForm s 2290 m && unused s (2290 + m * 143) ((4 - m) * 143))) && t) (keeps-is s n m)
       ∙ regroup (allRecords isForm s 2 n) (unused s (2 + n * 143) ((16 - n) * 143)) (allRecords isForm s 2290 m) (unused s (2290 + m * 143) ((4 - m) * 143))
       (all (entrySound home clock) (entriesAt s 2 n)) (all (entrySound home clock) (entriesAt s 2290 m)) (keysApart s 2 n 2290 m) (keysApart s 2290 m 2290 0)
-      (all (mayStand true false) (entriesAt s 2 n)) (all (mayStand (eqb n 16) true) (entriesAt s 2290 m))
-      ∙ rw (← records-are home clock true false s 2 n, ← records-are home clock (eqb n 16) true s 2290 m) refl
+      (all (mayStand true false) (entriesAt s 2 n)) (all (mayStand true true) (entriesAt s 2290 m)) (rangesKept (entriesAt s 2 n)) (settledBy (entriesAt s 2 n) (entriesAt s 2290 m))
+      ∙ rw (← records-are home clock true false s 2 n, ← records-are home clock true true s 2290 m) refl
 
   -- the same where the bucket lies in longer bytes
   pub sound-is : (s : Bytes) (at : ℕ) → at + 2862 ≤ length s → IsBytes s → getD s at 0 ≤ 16 → getD s (at + 1) 0 ≤ 4
       → sound home clock (part s at 2862)
-      ≡ (((unused s (at + 2 + getD s at 0 * 143) ((16 - getD s at 0) * 143) && unused s (at + 2290 + getD s (at + 1) 0 * 143) ((4 - getD s (at + 1) 0) * 143))
+      ≡ ((((unused s (at + 2 + getD s at 0 * 143) ((16 - getD s at 0) * 143) && unused s (at + 2290 + getD s (at + 1) 0 * 143) ((4 - getD s (at + 1) 0) * 143))
       && (keysApart s (at + 2) (getD s at 0) (at + 2290) (getD s (at + 1) 0) && keysApart s (at + 2290) (getD s (at + 1) 0) (at + 2290) 0))
-      && (allRecords (recordSound home clock true false) s (at + 2) (getD s at 0) && allRecords (recordSound home clock (eqb (getD s at 0) 16) true) s (at + 2290) (getD s (at + 1) 0)))
+      && (rangesKept (entriesAt s (at + 2) (getD s at 0)) && settledBy (entriesAt s (at + 2) (getD s at 0)) (entriesAt s (at + 2290) (getD s (at + 1) 0))))
+      && (allRecords (recordSound home clock true false) s (at + 2) (getD s at 0) && allRecords (recordSound home clock true true) s (at + 2290) (getD s (at + 1) 0)))
   sound-is s at h b ln lm =
       let n : ℕ = getD s at 0 in
       let m : ℕ = getD s (at + 1) 0 in
@@ -260,8 +289,10 @@ module _ (home : Bytes → Bool) (clock : ℕ) where
         z₂,
         keysApart-part s at 2862 2 n 2290 m (omega arith) (omega arith),
         keysApart-part s at 2862 2290 m 2290 0 (omega arith) (omega arith),
+        entriesAt-part s at 2862 2 n (omega arith),
+        entriesAt-part s at 2862 2290 m (omega arith),
         allRecords-part (recordSound home clock true false) s at 2862 2 n (omega arith),
-        allRecords-part (recordSound home clock (eqb n 16) true) s at 2862 2290 m (omega arith),
+        allRecords-part (recordSound home clock true true) s at 2862 2290 m (omega arith),
       ) refl
 
   -- counts out of bounds
@@ -279,7 +310,7 @@ module _ (home : Bytes → Bool) (clock : ℕ) where
       sym (rw (en, le-leb (getD s at 0) 16 few, em, lt-leb (getD s (at + 1) 0) 4 more) refl)
 
   -- the tests of `sound`, one after the other
-  pub sound-done : (s : Bytes) (at : ℕ) {z₁ z₂ z k₁ k₂ k r₁ r₂ l r a : Bool} → at + 2862 ≤ length s → IsBytes s → getD s at 0 ≤ 16 → getD s (at + 1) 0 ≤ 4
+  pub sound-done : (s : Bytes) (at : ℕ) {z₁ z₂ z k₁ k₂ k r₁ r₂ g₁ g₂ g zk l r a : Bool} → at + 2862 ≤ length s → IsBytes s → getD s at 0 ≤ 16 → getD s (at + 1) 0 ≤ 4
       → z₁ ≡ unused s (at + 2 + getD s at 0 * 143) ((16 - getD s at 0) * 143)
       → z₂ ≡ unused s (at + 2290 + getD s (at + 1) 0 * 143) ((4 - getD s (at + 1) 0) * 143)
       → z ≡ (z₁ && z₂)
@@ -287,10 +318,14 @@ module _ (home : Bytes → Bool) (clock : ℕ) where
       → k₂ ≡ keysApart s (at + 2290) (getD s (at + 1) 0) (at + 2290) 0
       → k ≡ (k₁ && k₂)
       → r₁ ≡ allRecords (recordSound home clock true false) s (at + 2) (getD s at 0)
-      → r₂ ≡ allRecords (recordSound home clock (eqb (getD s at 0) 16) true) s (at + 2290) (getD s (at + 1) 0)
-      → l ≡ (z && k)
+      → r₂ ≡ allRecords (recordSound home clock true true) s (at + 2290) (getD s (at + 1) 0)
+      → g₁ ≡ rangesKept (entriesAt s (at + 2) (getD s at 0))
+      → g₂ ≡ settledBy (entriesAt s (at + 2) (getD s at 0)) (entriesAt s (at + 2290) (getD s (at + 1) 0))
+      → g ≡ (g₁ && g₂)
+      → zk ≡ (z && k)
+      → l ≡ (zk && g)
       → r ≡ (r₁ && r₂)
       → a ≡ (l && r)
       → a ≡ sound home clock (part s at 2862)
-  sound-done s at h b ln lm z₁ z₂ ez k₁ k₂ ek r₁ r₂ el er e =
-      and-same e (and-same el (and-same ez z₁ z₂) (and-same ek k₁ k₂)) (and-same er r₁ r₂) ∙ sym (sound-is s at h b ln lm)
+  sound-done s at h b ln lm z₁ z₂ ez k₁ k₂ ek r₁ r₂ g₁ g₂ eg ezk el er e =
+      and-same e (and-same el (and-same ezk (and-same ez z₁ z₂) (and-same ek k₁ k₂)) (and-same eg g₁ g₂)) (and-same er r₁ r₂) ∙ sym (sound-is s at h b ln lm)

@@ -234,18 +234,13 @@ fn sound_where(
         keys_apart(bytes, line, m, line, 0),
     );
     let entries = records_sound(bytes, first, n, own, number, clock, true, false, tested);
-    let replacements = records_sound(
-        bytes,
-        line,
-        m,
-        own,
-        number,
-        clock,
-        n == Bucket::ENTRIES,
-        true,
-        tested,
+    let replacements = records_sound(bytes, line, m, own, number, clock, true, true, tested);
+    let ranges = both(
+        bucket_range::ranges_kept(bytes, first, n),
+        bucket_range::line_settled(bytes, first, n, line, m),
     );
-    both(both(unused, keys), both(entries, replacements))
+    let form = both(both(unused, keys), ranges);
+    both(form, both(entries, replacements))
 }
 
 // Whether the bytes of the bucket from index `at` are sound, in the table of the node with the hash `own`, at the table's clock.

@@ -10,13 +10,13 @@ use Rattle.entry.specs.Layout.{noEntry}
 use Rattle.node.specs.Nodes.{noNode}
 use Rattle.entry.specs.Nodes.{nodeOf}
 use Rattle.bucket_model.specs.Contents.{Contents}
-use Rattle.bucket_model.specs.Rules.{pingDue, hasEntry, freeEntry}
+use Rattle.bucket_model.specs.Rules.{pingDue, hasEntry, freeEntry, rangeTaken}
 use Rattle.packet.specs.declared.Ping as ping
 use Rattle.packet.specs.declared.Pong as pong
 use Rattle.packet.specs.declared.Packet.{Packet}
 use Rattle.packet.specs.declared.Packet.the-variants as packet
 use Rattle.call_answer.specs.declared.Standing.{Standing}
-use Rattle.call_answer.specs.declared.Standing.the-variants.{Tail, TookEntry, Waiting}
+use Rattle.call_answer.specs.declared.Standing.the-variants.{Tail, TookEntry, RangeFull, Waiting}
 use Rattle.call_answer.specs.declared.Outcome.{Outcome}
 use Rattle.call_answer.specs.declared.Outcome.the-variants.{Refused, Ping, Pong, FindNode, Neighbors, EnrRequest, EnrResponse}
 use Rattle.call_answer.specs.declared.Received.{Received}
@@ -34,14 +34,17 @@ abbrev pub headOf : Contents → Entry
 headOf b = getD (b .entries) 0 noEntry
 
 -- a pong's sender: "A seated node goes to the tail. A waiting node takes a free seat at the tail, else stays in line, and the answer
--- names the head seat and whether a ping is out to it."
+-- names the head seat and whether a ping is out to it." C-16: "A waiting node isn't seated while its range has two seats, even with seats
+-- free, and its pong then names no head."
 abbrev pub standing : Bytes → Contents → Standing
-standing key b = cond (hasEntry key b) Tail (cond (freeEntry b) TookEntry (Waiting (headOf b .ping)))
+standing key b =
+    cond (hasEntry key b) Tail (cond (rangeTaken key b) RangeFull (cond (freeEntry b) TookEntry (Waiting (headOf b .ping))))
 
 -- the node that the answer names
 abbrev pub named : Standing → Entry → Node
 named Tail e = noNode
 named TookEntry e = noNode
+named RangeFull e = noNode
 named (Waiting ping) e = nodeOf e
 
 abbrev pub acceptedPong : Bytes → pong.Pong → Contents → Received

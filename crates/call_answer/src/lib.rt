@@ -25,6 +25,8 @@ pub enum Standing {
     Tail,
     // It was a replacement, and now has an entry at the tail.
     TookEntry,
+    // It stays a replacement, proved, since its range has all the entries that it may have.
+    RangeFull,
     // It stays a replacement, proved; this is the ping state of the head.
     Waiting(PingState),
 }
@@ -42,7 +44,7 @@ pub enum Outcome {
     EnrResponse(EnrResponse),
 }
 
-// `head` is the node at the head of the bucket where the sender of a pong waits, else a node of zeros.
+// `head` is the node at the head of the bucket where the sender of a pong waits for a free entry, else a node of zeros.
 pub struct Received {
     pub outcome: Outcome,
     pub head: Node,
@@ -102,6 +104,10 @@ pub fn accepted_pong(b: Bucket, l: Lookup, p: Pong) -> Received
 {
     if l.has_entry() {
         return plain(Outcome::Pong(p, Standing::Tail));
+    }
+    let entries = b.entries;
+    if l.range_full(entries) {
+        return plain(Outcome::Pong(p, Standing::RangeFull));
     }
     if b.free_entry() {
         return plain(Outcome::Pong(p, Standing::TookEntry));

@@ -3,7 +3,8 @@ use mathlib.Core.List.{List, [], _∷_}
 use mathlib.Core.Logic.{⊎-elim, inl, inr}
 use native.Mathlib.Omega.{arith}
 use Rattle.octets.specs.Octets.{Bytes}
-use Rattle.call_history.specs.Model.{Env, Lawful, Call, next, slot, bucketOf, Run, start, advance, runFrom, run}
+use Rattle.bucket_model.proofs.Ranges.{ranges-bounded}
+use Rattle.call_history.specs.Model.{Env, Lawful, Call, next, slot, bucketAt, bucketOf, Run, start, advance, runFrom, run}
 use Rattle.call_history.specs.Words.{ProvedReplacement}
 use Rattle.call_history.specs.Demand3.{StayLasts, InOrder, EntriesInOrder, TakesEntry, InTurn, Demand3}
 use Rattle.call_history.proofs.Step.{fresh-bucket}
@@ -84,6 +85,7 @@ module _ (e : Env) (law : Lawful e) where
             let b = kept earlier .ok .each i in
             let own = own-buckets e (run e earlier .table) (kept earlier .ok) i in
             (b .entries-bound, b .replacements-bound, b .once, own .0, own .1);
+        ranges-bounded = λ earlier later _ i a. ranges-bounded (bucketAt e (run e earlier .table) i .entries) (kept earlier .ok .each i .ranges) a;
         leaves-replacements = λ earlier later c _. Replacement.leaves-replacements e (run e earlier) (kept earlier .ok) (kept earlier .known) c;
         takes-entry = λ earlier later c _. takes-entry (run e earlier) (kept earlier) c;
         comes-to-entry = λ earlier later c _.

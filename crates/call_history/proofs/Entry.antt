@@ -16,7 +16,7 @@ use Rattle.entry.specs.declared.Entry.{Entry}
 use Rattle.entry.specs.declared.PingState.{PingState}
 use Rattle.entry.specs.declared.PingState.the-variants.{Quiet, Out}
 use Rattle.bucket_model.specs.Contents.{Contents}
-use Rattle.bucket_model.specs.Rules.{maxEntries, pingTimeout, millis, ofKey, isOf, held, isProved, isOverdue, pinged, ponged, heard, staysEntry, onPingSent, onPong, onHeard}
+use Rattle.bucket_model.specs.Rules.{takesEntry, pingTimeout, millis, ofKey, isOf, held, isProved, isOverdue, pinged, ponged, heard, staysEntry, onPingSent, onPong, onHeard}
 use Rattle.bucket_model.proofs.View.{Mapped, own-heard, own-pong-stays, own-pong-takes, own-pinged, sweep-entry}
 use Rattle.call_history.specs.Model.{Env, Reading, Call, datagram, pingSent, sweep, closest, Table, slot, homeAt, bucketOf, Accepted, onDatagram, next, Run}
 use Rattle.call_history.specs.Words.{entryOf, HasEntry, AcceptedSweep, OpenPing}
@@ -52,10 +52,10 @@ module _ (now : ℕ) (key : Bytes) (b : Contents) where
 
     pong-has : Has (onPong now key b)
     pong-has =
-        byTest (ltb (length (b .entries)) maxEntries)
-        (λ g. rw (own-pong-takes now key b (ltb-true (length (b .entries)) maxEntries g) .entries)
+        byTest (takesEntry key b)
+        (λ g. rw (own-pong-takes now key b g .entries)
         (simp (length-append, length-map) (omega arith)))
-        (λ g. omega (arith, count-mapped (ponged now) (onPong now key b) (own-pong-stays now key b (ltb-false (length (b .entries)) maxEntries g))))
+        (λ g. omega (arith, count-mapped (ponged now) (onPong now key b) (own-pong-stays now key b g)))
 
     pub datagram-has : (address : Bytes) (udp : ℕ) (r : Reading) → Has (onDatagram now address udp key r b)
     datagram-has address udp r =

@@ -13,7 +13,7 @@ use Rattle.lists.specs.Lists.{select, any}
 use Rattle.lists.proofs.Laws.{byTest, nil}
 use Rattle.entry.specs.declared.Entry.{Entry}
 use Rattle.bucket_model.specs.Contents.{Contents}
-use Rattle.bucket_model.specs.Rules.{maxEntries, ofKey, held, isVerified, pinged, ponged, heard, staysEntry, onPingSent, onPong}
+use Rattle.bucket_model.specs.Rules.{takesEntry, ofKey, held, isVerified, pinged, ponged, heard, staysEntry, onPingSent, onPong}
 use Rattle.bucket_model.proofs.View.{own-heard, own-pong-stays, own-pong-takes, own-pinged}
 use Rattle.call_history.specs.Model.{Env, Reading, refused, ping, pong, other, Call, datagram, pingSent, sweep, closest, Table, slot, bucketOf, packetRefusals, datagramRefusals, pingSentRefusals, answer, Accepted, onPacket, onDatagram, effect, next, Run}
 use Rattle.call_history.specs.Words.{entryOf, replacementOf, HasEntry}
@@ -40,9 +40,9 @@ module _ (now : ℕ) (key : Bytes) (b : Contents) (p : Entry) (has : ofKey key (
 
   pong-entry : ofKey key (onPong now key b .entries) ≡ ponged now p ∷ []
   pong-entry =
-      byTest (ltb (length (b .entries)) maxEntries)
-      (λ g. own-pong-takes now key b (ltb-true (length (b .entries)) maxEntries g) .entries ∙ rw (has, no-wait))
-      (λ g. own-pong-stays now key b (ltb-false (length (b .entries)) maxEntries g) .entries ∙ rw has)
+      byTest (takesEntry key b)
+      (λ g. own-pong-takes now key b g .entries ∙ rw (has, no-wait))
+      (λ g. own-pong-stays now key b g .entries ∙ rw has)
 
   packet-entry : (address : Bytes) (udp : ℕ) → ofKey key (onPacket now address udp key b .entries) ≡ packetEntry now address udp p ∷ []
   packet-entry address udp =

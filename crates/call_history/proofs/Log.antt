@@ -16,8 +16,8 @@ use Rattle.entry.specs.declared.Entry.{Entry}
 use Rattle.node.specs.declared.MonotonicMillis.{MonotonicMillis}
 use Rattle.entry.specs.declared.PingState.the-variants.{Out}
 use Rattle.bucket_model.specs.Contents.{Contents}
-use Rattle.bucket_model.specs.Rules.{maxEntries, millis, ofKey, held, isOut, isProved, pinged, ponged, heard, staysEntry, staysReplacement, freeAfter, onPingSent, onPong, onHeard, onSweep, newEntry}
-use Rattle.bucket_model.proofs.View.{Holds, Mapped, keptReplacements, own-heard, own-pong-stays, own-pong-takes, own-pinged, own-joined, own-sweep, ofKey-kept}
+use Rattle.bucket_model.specs.Rules.{takesEntry, millis, ofKey, held, isOut, isProved, pinged, ponged, heard, staysEntry, staysReplacement, onPingSent, onPong, onHeard, onSweep, newEntry}
+use Rattle.bucket_model.proofs.View.{Holds, Mapped, keptEntries, keptReplacements, own-heard, own-pong-stays, own-pong-takes, own-pinged, own-joined, own-sweep, ofKey-kept}
 use Rattle.bucket_model.proofs.Promotion.{ofKey-promoted, ofKey-remaining}
 use Rattle.call_history.specs.Model.{Env, Call, datagram, pingSent, sweep, closest, slot, bucketOf, answer, next, Event, Run, advance}
 use Rattle.call_history.specs.Words.{isPong, PingAt, pongFrom, OpenPing, begins, proved}
@@ -43,11 +43,11 @@ module _ (P Q : Entry → Type 0) (key : Bytes) (b : Contents) (both : Both P ke
   both-pong now g =
       let es = map (ponged now) (ofKey key (b .entries)) in
       let rs = map (ponged now) (ofKey key (b .replacements)) in
-      byTest (ltb (length (b .entries)) maxEntries)
-      (λ t. holds-both Q key (onPong now key b) (es ++ rs) [] (own-pong-takes now key b (ltb-true (length (b .entries)) maxEntries t))
+      byTest (takesEntry key b)
+      (λ t. holds-both Q key (onPong now key b) (es ++ rs) [] (own-pong-takes now key b t)
       (All-append Q es rs (All-map P Q (ponged now) g (ofKey key (b .entries)) (both .0)) (All-map P Q (ponged now) g (ofKey key (b .replacements)) (both .1)))
       tt)
-      (λ t. both-mapped now (ponged now) (onPong now key b) (own-pong-stays now key b (ltb-false (length (b .entries)) maxEntries t)) g)
+      (λ t. both-mapped now (ponged now) (onPong now key b) (own-pong-stays now key b t) g)
 
   pub both-same : ((p : Entry) → P p → Q p) → Both Q key b
   both-same f = (All-imp P Q f (ofKey key (b .entries)) (both .0), All-imp P Q f (ofKey key (b .replacements)) (both .1))
@@ -69,8 +69,8 @@ both-sweep P X now b both =
     holds-both P X (onSweep now b) _ _ (own-sweep X now b)
     (All-append P (select (staysEntry now) (ofKey X (b .entries))) _
     (All-select P (staysEntry now) (ofKey X (b .entries)) (both .0))
-    (ofKey-promoted P X (freeAfter now b) (keptReplacements now b) line))
-    (ofKey-remaining P X (freeAfter now b) (keptReplacements now b) line)
+    (ofKey-promoted P X (keptEntries now b) (keptReplacements now b) line))
+    (ofKey-remaining P X (keptEntries now b) (keptReplacements now b) line)
 
 -- ---- an entry and the log
 

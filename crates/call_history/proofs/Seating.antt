@@ -1,5 +1,5 @@
--- How a node comes to have an entry: by its pong, where it waits and an entry is free, or proved, by a sweep with room for it.
-use Prim.Native.Nat.{ℕ, _<_}
+-- How a node comes to have an entry: by its pong, where it waits and there is a seat for it, or proved, by a sweep with room for it.
+use Prim.Native.Nat.{ℕ, _<_, _≤_}
 use mathlib.Core.Path.{_≡_, refl, ap, sym, _∙_}
 use mathlib.Core.Logic.{_⊎_, inl, inr, ⊎-elim}
 use mathlib.Core.Bool.{true, _&&_}
@@ -12,12 +12,14 @@ use Rattle.octets.proofs.Laws.{same-eq, same-refl}
 use Rattle.lists.specs.Lists.{empty, All}
 use Rattle.lists.proofs.Laws.{byTest, never, and-left, and-right, length-select, All-select}
 use Rattle.bucket_model.specs.Contents.{Contents}
-use Rattle.bucket_model.specs.Rules.{maxEntries, isOf, ofKey, held, ponged, heard, promoted, staysReplacement, freeAfter, onPong, onHeard, onPingSent}
+use Rattle.bucket_model.specs.Rules.{takesEntry, isOf, ofKey, held, ponged, heard, promoted, staysReplacement, onPong, onHeard, onPingSent}
+use Rattle.bucket_model.specs.Facts.{SeatFor}
+use Rattle.bucket_model.proofs.Ranges.{takes-seat, seat-takes}
 use Rattle.bucket_model.proofs.Keys.{promoted-proved, promoted-or-remaining}
 use Rattle.bucket_model.proofs.View.{own-heard, own-pong-stays, own-pong-takes, own-joined, ofKey-kept}
 use Rattle.bucket_model.proofs.Promotion.{provedEntry, ofKey-promoted}
-use Rattle.call_history.specs.Model.{Env, Reading, Call, datagram, pingSent, sweep, closest, Table, bucketOf, answer, Accepted, onDatagram, next, Run}
-use Rattle.call_history.specs.Words.{isPong, entryOf, replacementOf, HasEntry, IsReplacement, AcceptedSweep, pongFrom, ProvedReplacement, keptReplacements}
+use Rattle.call_history.specs.Model.{Env, Reading, Call, datagram, pingSent, sweep, closest, Table, slot, bucketOf, answer, Accepted, onDatagram, next, Run}
+use Rattle.call_history.specs.Words.{isPong, entryOf, replacementOf, HasEntry, IsReplacement, AcceptedSweep, pongFrom, ProvedReplacement, keptEntries, keptReplacements}
 use Rattle.call_history.specs.Demand3.{TakesEntry, ComesToEntry}
 use Rattle.call_history.proofs.Step.{byDatagram, byAnswer}
 use Rattle.call_history.proofs.Sound.{TableSound}
@@ -29,28 +31,23 @@ use Rattle.call_history.proofs.Replacement.{swept-entries, log-proved}
 -- ---- the signer's bucket
 
 module _ (now : ℕ) (key : Bytes) (b : Contents) (none : length (ofKey key (b .entries)) ≡ 0) where
-  pong-count : length (b .entries) < maxEntries → length (ofKey key (onPong now key b .entries)) ≡ length (ofKey key (b .replacements))
+  pong-count : takesEntry key b ≡ true → length (ofKey key (onPong now key b .entries)) ≡ length (ofKey key (b .replacements))
   pong-count free = rw (own-pong-takes now key b free .entries) (simp (length-append, length-map) (omega arith))
 
-  -- a datagram gives its signer an entry only where it is a pong, the signer waits, and an entry is free
+  -- a datagram gives its signer an entry only where it is a pong, the signer waits, and there is a seat for it
   datagram-seats : (address : Bytes) (udp : ℕ) (r : Reading) → 0 < length (ofKey key (onDatagram now address udp key r b .entries))
-      → (isPong r ≡ true) × (0 < length (ofKey key (b .replacements))) × (length (b .entries) < maxEntries)
+      → (isPong r ≡ true) × (0 < length (ofKey key (b .replacements))) × (takesEntry key b ≡ true)
   datagram-seats address udp r =
-      byDatagram (λ c. 0 < length (ofKey key (c .entries)) → (isPong r ≡ true) × (0 < length (ofKey key (b .replacements))) × (length (b .entries) < maxEntries))
+      byDatagram (λ c. 0 < length (ofKey key (c .entries)) → (isPong r ≡ true) × (0 < length (ofKey key (b .replacements))) × (takesEntry key b ≡ true))
       now address udp key r b
       (λ _ has. absurd (omega arith))
       (λ _ has. absurd (omega (arith, count-mapped now key b (heard now) (onHeard now key b) (own-heard now key b))))
-      (λ is has. byTest (ltb (length (b .entries)) maxEntries)
-      (λ g.
-      let free = ltb-true (length (b .entries)) maxEntries g in
-      (is, omega (arith, pong-count free), free))
-      (λ g. absurd (omega (
-        arith,
-        count-mapped now key b (ponged now) (onPong now key b) (own-pong-stays now key b (ltb-false (length (b .entries)) maxEntries g)),
-      ))))
+      (λ is has. byTest (takesEntry key b)
+      (λ g. (is, omega (arith, pong-count g), g))
+      (λ g. absurd (omega (arith, count-mapped now key b (ponged now) (onPong now key b) (own-pong-stays now key b g)))))
 
   -- and there it does
-  pong-seats : (address : Bytes) (udp : ℕ) (r : Reading) → isPong r ≡ true → 0 < length (ofKey key (b .replacements)) → length (b .entries) < maxEntries
+  pong-seats : (address : Bytes) (udp : ℕ) (r : Reading) → isPong r ≡ true → 0 < length (ofKey key (b .replacements)) → takesEntry key b ≡ true
       → 0 < length (ofKey key (onDatagram now address udp key r b .entries))
   pong-seats address udp r is waits free =
       byDatagram (λ c. 0 < length (ofKey key (c .entries))) now address udp key r b
@@ -67,9 +64,9 @@ module _ (now : ℕ) (key : Bytes) (b : Contents) (none : length (ofKey key (b .
 -- ---- a call
 
 module _ (e : Env) (s : Table) (ok : TableSound e s) where
-  -- an accepted pong from a waiting node, with an entry free
+  -- an accepted pong from a waiting node, with a seat for it
   abbrev PongSeats : Bytes → Call → Type 0
-  PongSeats X c = IsReplacement e X s × (pongFrom e X s c ≡ true) × (length (bucketOf e s X .entries) < maxEntries)
+  PongSeats X c = IsReplacement e X s × (pongFrom e X s c ≡ true) × SeatFor X (bucketOf e s X .entries) (bucketOf e s X .replacements)
 
   own-datagram : (now unix : ℕ) (address : Bytes) (udp : ℕ) (key bytes : Bytes) → length (entryOf e key s) ≡ 0
       → HasEntry e key (next e s (datagram now unix address udp key bytes)) → PongSeats key (datagram now unix address udp key bytes)
@@ -78,7 +75,9 @@ module _ (e : Env) (s : Table) (ok : TableSound e s) where
       View.own-datagram e s (ok .sized) (λ b. 0 < length (ofKey key (b .entries)) → PongSeats key c) now unix address udp key bytes
       (λ a has.
       let is = datagram-seats now key (bucketOf e s key) none address udp (e .read bytes unix) has in
-      (is .1, rw (same-refl key, is .0, eq-eqb (answer e s c) 0 a), is .2))
+      let b = bucketOf e s key in
+      let few : length (ofKey key (b .replacements)) ≤ 1 = omega (arith, ok .each (slot e key) .once key) in
+      (is .1, rw (same-refl key, is .0, eq-eqb (answer e s c) 0 a), takes-seat key (b .entries) (b .replacements) few (is .2)))
       (λ _ has. absurd (omega arith))
 
   module _ (X : Bytes) (none : length (entryOf e X s) ≡ 0) where
@@ -119,7 +118,8 @@ module _ (e : Env) (s : Table) (ok : TableSound e s) where
         let own : PongSeats key c = rw is at p in
         rw is
         (View.own-datagram e s (ok .sized) (λ b. 0 < length (ofKey key (b .entries))) now unix address udp key bytes
-        (λ _. pong-seats now key (bucketOf e s key) (rw is at none) address udp r (and-left (isPong r) (eqb (answer e s c) 0) rest) (own .0) (own .2))
+        (λ _. pong-seats now key (bucketOf e s key) (rw is at none) address udp r (and-left (isPong r) (eqb (answer e s c) 0) rest) (own .0)
+        (seat-takes key (bucketOf e s key .entries) (bucketOf e s key .replacements) (own .0) (own .2)))
         (λ rejected. absurd (rejected a)))
     pong-comes (pingSent now key address udp tcp hash) p = never (sym (p .1))
     pong-comes (sweep now) p = never (sym (p .1))
@@ -131,19 +131,19 @@ module _ (e : Env) (r : Run e) (ok : TableSound e (r .table)) (known : (X : Byte
       → HasEntry e X (next e (r .table) (sweep t)) → ProvedReplacement e X r
   seated-proved X none t a has =
       let b = bucketOf e (r .table) X in
-      let free = freeAfter t b in
+      let kept-entries = keptEntries e t (r .table) X in
       let line = keptReplacements e t (r .table) X in
       let count = swept-entries e (r .table) ok X none t a in
       let kept : All (Known e X (r .log)) (ofKey X line) =
       rw (ofKey-kept X t b) (All-select (Known e X (r .log)) (staysReplacement t) (replacementOf e X (r .table)) (known X .1)) in (
         omega (
           arith,
-          promoted-or-remaining X free line,
+          promoted-or-remaining X kept-entries line,
           ap length (ofKey-kept X t b),
           length-select (staysReplacement t) (replacementOf e X (r .table)),
         ),
-        log-proved e X (r .log) (ofKey X (promoted free line)) (omega arith) (ofKey-promoted (Known e X (r .log)) X free line kept)
-            (All-select (λ p. provedEntry p ≡ true) (isOf X) (promoted free line) (promoted-proved free line)),
+        log-proved e X (r .log) (ofKey X (promoted kept-entries line)) (omega arith) (ofKey-promoted (Known e X (r .log)) X kept-entries line kept)
+            (All-select (λ p. provedEntry p ≡ true) (isOf X) (promoted kept-entries line) (promoted-proved kept-entries line)),
       )
 
   pub comes-to-entry : (c : Call) → TakesEntry e r c → ComesToEntry e r c

@@ -14,9 +14,9 @@ use Rattle.lists.specs.Lists.{empty, All}
 use Rattle.lists.proofs.Laws.{byTest, never, and-left, and-right, length-select, All-imp}
 use Rattle.entry.specs.declared.Entry.{Entry}
 use Rattle.bucket_model.specs.Contents.{Contents}
-use Rattle.bucket_model.specs.Rules.{maxEntries, isOf, ofKey, held, isProved, pinged, ponged, heard, staysReplacement, freeAfter, onPingSent, onPong, onHeard}
+use Rattle.bucket_model.specs.Rules.{takesEntry, isOf, ofKey, held, isProved, pinged, ponged, heard, staysReplacement, onPingSent, onPong, onHeard}
 use Rattle.bucket_model.proofs.Keys.{promoted-or-remaining}
-use Rattle.bucket_model.proofs.View.{Mapped, keptReplacements, own-heard, own-pong-stays, own-pong-takes, own-pinged, own-joined, own-sweep, ofKey-kept}
+use Rattle.bucket_model.proofs.View.{Mapped, keptEntries, keptReplacements, own-heard, own-pong-stays, own-pong-takes, own-pinged, own-joined, own-sweep, ofKey-kept}
 use Rattle.call_history.specs.Model.{Env, Reading, Call, datagram, pingSent, sweep, closest, Table, slot, bucketAt, bucketOf, answer, onDatagram, next, Run, advance}
 use Rattle.call_history.specs.Words.{OwnBucket, replacementOf, IsReplacement, begins, proved}
 use Rattle.call_history.specs.Demand3.{StayBegins, StayLasts, ProvedByPong}
@@ -40,9 +40,9 @@ module _ (now : ℕ) (key : Bytes) (b : Contents) (none : length (ofKey key (b .
       byDatagram None now address udp key r b
       (λ _. none)
       (λ _. count-replacements now key b (heard now) (onHeard now key b) (own-heard now key b) ∙ none)
-      (λ _. byTest (ltb (length (b .entries)) maxEntries)
-      (λ g. rw (own-pong-takes now key b (ltb-true (length (b .entries)) maxEntries g) .replacements))
-      (λ g. count-replacements now key b (ponged now) (onPong now key b) (own-pong-stays now key b (ltb-false (length (b .entries)) maxEntries g)) ∙ none))
+      (λ _. byTest (takesEntry key b)
+      (λ g. rw (own-pong-takes now key b g .replacements))
+      (λ g. count-replacements now key b (ponged now) (onPong now key b) (own-pong-stays now key b g) ∙ none))
 
   pinged-none : (address : Bytes) (udp tcp : ℕ) (hash : Bytes) → empty (held key b) ≡ false → None (onPingSent now key address udp tcp hash b)
   pinged-none address udp tcp hash old =
@@ -77,7 +77,7 @@ module _ (e : Env) (s : Table) (ok : TableSound e s) (X : Bytes) where
       (λ _. rw (swept-bucket e s now (slot e X), own-sweep X now b .replacements)
       (omega (
         arith,
-        promoted-or-remaining X (freeAfter now b) (keptReplacements now b),
+        promoted-or-remaining X (keptEntries now b) (keptReplacements now b),
         ap length (ofKey-kept X now b),
         length-select (staysReplacement now) (ofKey X (b .replacements)),
       )))

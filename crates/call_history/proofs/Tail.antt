@@ -14,7 +14,7 @@ use Rattle.lists.specs.Lists.{select, empty, All, Rising}
 use Rattle.lists.proofs.Laws.{byTest, never, nil, All-select, All-append, All-imp, All-every, All-right, All-and, Rising-select, Rising-map, Rising-imp}
 use Rattle.entry.specs.declared.Entry.{Entry}
 use Rattle.bucket_model.specs.Contents.{Contents}
-use Rattle.bucket_model.specs.Rules.{maxEntries, isOf, ofKey, without, held, isProved, pinged, ponged, promoted, staysEntry, staysReplacement, freeAfter, onPingSent, onPong, onHeard, onSweep}
+use Rattle.bucket_model.specs.Rules.{takesEntry, isPromoted, isOf, ofKey, without, held, isProved, pinged, ponged, promoted, staysEntry, staysReplacement, onPingSent, onPong, onHeard, onSweep}
 use Rattle.bucket_model.proofs.Keys.{All-promoted}
 use Rattle.bucket_model.proofs.View.{keptReplacements, own-heard, own-pong-stays, own-pong-takes}
 use Rattle.bucket_model.proofs.Promotion.{Below}
@@ -46,12 +46,12 @@ module _ {A : Type 0} where
   some [] h = never h
   some (a ∷ l) h = omega arith
 
-Rising-promoted : (R : Entry → Entry → Type 0) (n : ℕ) (l : List Entry) → Rising R l → Rising R (promoted n l)
-Rising-promoted R n [] r = tt
-Rising-promoted R n (p ∷ l) r =
-    byTest (isProved (p .proof) && ltb 0 n)
-    (λ g. rw g (All-promoted (R p) (n - 1) l (r .0), Rising-promoted R (n - 1) l (r .1)))
-    (λ g. rw g (Rising-promoted R n l (r .1)))
+Rising-promoted : (R : Entry → Entry → Type 0) (t l : List Entry) → Rising R l → Rising R (promoted t l)
+Rising-promoted R t [] r = tt
+Rising-promoted R t (p ∷ l) r =
+    byTest (isPromoted t p)
+    (λ g. rw g (All-promoted (R p) (t ++ (p ∷ [])) l (r .0), Rising-promoted R (t ++ (p ∷ [])) l (r .1)))
+    (λ g. rw g (Rising-promoted R t l (r .1)))
 
 -- each entry is one of those of its key
 found : (l : List Entry) → All (λ p. empty (ofKey (p .key) l) ≡ false) l
@@ -78,13 +78,13 @@ module _ (now : ℕ) (key : Bytes) (b : Contents) where
       let away = without key (b .entries) in
       let es = map (ponged now) (ofKey key (b .entries)) in
       let rs = map (ponged now) (ofKey key (b .replacements)) in
-      byTest (ltb (length (b .entries)) maxEntries)
+      byTest (takesEntry key b)
       (λ g.
       let is : onPong now key b .entries ≡ away ++ (es ++ rs) = rw g (append-assoc away es rs) in
-      is ∙ ap (λ m. away ++ m) (sym (own-pong-takes now key b (ltb-true (length (b .entries)) maxEntries g) .entries)))
+      is ∙ ap (λ m. away ++ m) (sym (own-pong-takes now key b g .entries)))
       (λ g.
       let is : onPong now key b .entries ≡ away ++ es = rw g in
-      is ∙ ap (λ m. away ++ m) (sym (own-pong-stays now key b (ltb-false (length (b .entries)) maxEntries g) .entries)))
+      is ∙ ap (λ m. away ++ m) (sym (own-pong-stays now key b g .entries)))
 
 module _ (e : Env) where
   abbrev Before : List (Event e) → Entry → Entry → Type 0
@@ -249,18 +249,17 @@ module _ (e : Env) where
         let c = sweep now in
         let b = bucketAt e (r .table) i in
         let l = select (staysEntry now) (b .entries) in
-        let free = freeAfter now b in
         let line = keptReplacements now b in
-        joined r c l (promoted free line)
+        joined r c l (promoted l line)
         (stays r c l (All-select (Has (r .table)) (staysEntry now) (b .entries) (has-entry (r .table) ok i)) (All-every _ (λ p. refl) l))
         (Rising-select (Before (r .log)) (staysEntry now) (b .entries) (entries-in-order i))
         (All-imp (λ p. (empty (entryOf e (p .key) (r .table)) ≡ true) × Has (next e (r .table) c) p) (Comes r c) (λ p h. rw (h .0, h .1))
-        (promoted free line)
-        (All-and (λ p. empty (entryOf e (p .key) (r .table)) ≡ true) (Has (next e (r .table) c)) (promoted free line)
-        (All-promoted (λ p. empty (entryOf e (p .key) (r .table)) ≡ true) free line
+        (promoted l line)
+        (All-and (λ p. empty (entryOf e (p .key) (r .table)) ≡ true) (Has (next e (r .table) c)) (promoted l line)
+        (All-promoted (λ p. empty (entryOf e (p .key) (r .table)) ≡ true) l line
         (All-select (λ p. empty (entryOf e (p .key) (r .table)) ≡ true) (staysReplacement now) (b .replacements) (no-entry (r .table) ok i)))
-        (All-right (Has (next e (r .table) c)) l (promoted free line) has)))
-        (Rising-promoted (Below (began e (r .log))) free line (Rising-select (Below (began e (r .log))) (staysReplacement now) (b .replacements) (in-order i)))
+        (All-right (Has (next e (r .table) c)) l (promoted l line) has)))
+        (Rising-promoted (Below (began e (r .log))) l line (Rising-select (Below (began e (r .log))) (staysReplacement now) (b .replacements) (in-order i)))
 
     ordered : (c : Call) (i : ℕ) → Ordered c (bucketAt e (next e (r .table) c) i)
     ordered (datagram now unix address udp key bytes) i = packet-order now unix address udp key bytes i

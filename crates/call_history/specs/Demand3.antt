@@ -8,9 +8,11 @@ use mathlib.Core.Option.{Option, none, some}
 use lib.ListN.{length}
 use Rattle.octets.specs.Octets.{Bytes}
 use Rattle.lists.specs.Lists.{empty, All, Rising}
-use Rattle.bucket_model.specs.Rules.{ofKey, held, isProved, freeAfter}
+use Rattle.node.specs.declared.Endpoint.{Endpoint}
+use Rattle.bucket_model.specs.Facts.{SeatFor}
+use Rattle.bucket_model.specs.Rules.{maxOfRange, rangeCount, ofKey, held, isProved}
 use Rattle.call_history.specs.Model.{Env, Call, datagram, pingSent, sweep, closest, Table, bucketOf, bucketAt, next, Run, advance, run}
-use Rattle.call_history.specs.Words.{OwnBucket, entryOf, HasEntry, IsReplacement, AcceptedSweep, pongFrom, OpenPing, begins, InStay, began, proved, ProvedReplacement, keptReplacements, ahead, TailedBefore}
+use Rattle.call_history.specs.Words.{OwnBucket, entryOf, HasEntry, IsReplacement, AcceptedSweep, pongFrom, OpenPing, begins, InStay, began, proved, ProvedReplacement, keptReplacements, takenAhead, TailedBefore}
 
 -- the box clock clockReading of a call; a closest call has none, and counts as read when the last one was
 abbrev pub clockReading : ℕ → Call → ℕ
@@ -83,32 +85,38 @@ module _ (e : Env) where
       × All (λ p. OwnBucket e i (p .key)) (bucketAt e s i .entries)
       × All (λ p. OwnBucket e i (p .key)) (bucketAt e s i .replacements)
 
+  -- "Of the seats of a bucket at most two may have 4-byte addresses with the same first three bytes" (C-16)
+  abbrev pub RangesBounded : Table → Type 0
+  RangesBounded s = (i : ℕ) (a : Endpoint) → rangeCount a (bucketAt e s i .entries) ≤ maxOfRange
+
   -- "A proved waiting node leaves the line only at a sweep."
   abbrev pub LeavesReplacements : Run e → Call → Type 0
   LeavesReplacements r c =
       (X : Bytes) → ProvedReplacement e X r → (IsReplacement e X (next e (r .table) c) → ⊥) → (t : ℕ) × AcceptedSweep e (r .table) c t
 
-  -- the call is an accepted sweep that keeps X and, after its removals, has free entries for it and for every proved node still
-  -- ahead of it
+  -- the call is an accepted sweep "that keeps it and, after its removals and the seating of every proved one ahead of it that the sweep
+  -- doesn't pass over, has a free seat and, for a 4-byte address, fewer than two seats of its range" (of a 16-byte address none is counted)
   abbrev pub HasRoomFor : Bytes → Run e → Call → Type 0
   HasRoomFor X r c =
       (t : ℕ) × AcceptedSweep e (r .table) c t
       × (0 < length (ofKey X (keptReplacements e t (r .table) X)))
-      × (length (ahead e t r X) < freeAfter t (bucketOf e (r .table) X))
+      × SeatFor X (takenAhead e t r X) (keptReplacements e t (r .table) X)
 
-  -- "In each stay in line, from the pong that left it there proved, it is seated at the first accepted sweep that keeps it and,
-  -- after its removals, has free seats for it and for every proved node still ahead of it, and not sooner": at each call ..
+  -- "in each stay in line, from the pong that left it there proved, it is seated at the first accepted sweep that [has room for it], and not
+  -- sooner" (document 02, C-16): at each call ..
   abbrev pub TakesEntry : Run e → Call → Type 0
   TakesEntry r c = (X : Bytes) → ProvedReplacement e X r → HasEntry e X (next e (r .table) c) ↔ HasRoomFor X r c
 
-  -- How a node comes to be seated, by the rules: with its pong "a waiting node takes a free seat", and a sweep seats "proved waiting
-  -- nodes in line order .. while seats are free". A node without an entry has one after the call exactly if it waits, the call is an
-  -- accepted pong from it, and an entry is free, or it is a proved replacement and the call has room for it.
+  -- How a node comes to be seated, by the rules: with its pong "a waiting node takes a free seat", but "isn't seated while its range has two
+  -- seats" (C-16), and a sweep seats "proved waiting nodes in line order .. while seats are free". A node without an entry has one after the
+  -- call exactly if it waits, the call is an accepted pong from it, and there is a seat for it, or it is a proved replacement and the call
+  -- has room for it.
   abbrev pub ComesToEntry : Run e → Call → Type 0
   ComesToEntry r c =
       (X : Bytes) → (HasEntry e X (r .table) → ⊥)
       → HasEntry e X (next e (r .table) c)
-      ↔ ((IsReplacement e X (r .table) × (pongFrom e X (r .table) c ≡ true) × (length (bucketOf e (r .table) X .entries) < 16))
+      ↔ ((IsReplacement e X (r .table) × (pongFrom e X (r .table) c ≡ true)
+      × SeatFor X (bucketOf e (r .table) X .entries) (bucketOf e (r .table) X .replacements))
       ⊎ (ProvedReplacement e X r × HasRoomFor X r c))
 
   -- the call is an accepted sweep that does not keep X
@@ -157,6 +165,7 @@ module _ (e : Env) where
     pub isolated : (earlier later rest : List Call) → calls ≡ earlier ++ later ++ rest → Isolated (run e earlier) later
     pub keeps-endpoint : (earlier later : List Call) (c : Call) → calls ≡ earlier ++ c ∷ later → KeepsEndpoint (run e earlier) c
     pub bounded : (earlier later : List Call) → calls ≡ earlier ++ later → Bounded (run e earlier .table)
+    pub ranges-bounded : (earlier later : List Call) → calls ≡ earlier ++ later → RangesBounded (run e earlier .table)
     pub leaves-replacements : (earlier later : List Call) (c : Call) → calls ≡ earlier ++ c ∷ later → LeavesReplacements (run e earlier) c
     pub takes-entry : (earlier later : List Call) (c : Call) → calls ≡ earlier ++ c ∷ later → TakesEntry (run e earlier) c
     pub comes-to-entry : (earlier later : List Call) (c : Call) → calls ≡ earlier ++ c ∷ later → ComesToEntry (run e earlier) c

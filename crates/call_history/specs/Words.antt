@@ -4,13 +4,13 @@ use Prim.Native.Nat.{ℕ, suc, _<_}
 use mathlib.Core.Path.{_≡_}
 use mathlib.Core.Logic.{_⊎_}
 use mathlib.Core.Bool.{Bool, true, false, cond, not, _&&_, _||_}
-use mathlib.Core.List.{List, [], _∷_}
+use mathlib.Core.List.{List, [], _∷_, _++_}
 use lib.Dec.{eqb, ltb}
 use lib.ListN.{length}
 use Rattle.octets.specs.Octets.{Bytes, sameBytes}
 use Rattle.lists.specs.Lists.{select, empty}
 use Rattle.entry.specs.declared.Entry.{Entry}
-use Rattle.bucket_model.specs.Rules.{ofKey, held, notVerified, staysReplacement}
+use Rattle.bucket_model.specs.Rules.{ofKey, held, mayTake, notVerified, staysEntry, staysReplacement}
 use Rattle.call_history.specs.Model.{Env, Reading, refused, ping, pong, other, Call, datagram, pingSent, sweep, closest, Table, isKept, slot, homeAt, bucketOf, answer, Accepted, next, Event, Run}
 
 abbrev pub isPong : Reading → Bool
@@ -18,6 +18,12 @@ isPong (refused fault) = false
 isPong ping = false
 isPong (pong hash) = true
 isPong other = false
+
+-- the entries taken after nodes in line have had their turn one after the other: each takes one where one is free and its range has
+-- fewer than two (document 02, C-16), and else is passed over
+abbrev pub takenAfter : List Entry → List Entry → List Entry
+takenAfter taken [] = taken
+takenAfter taken (p ∷ line) = cond (mayTake taken (p .endpoint)) (takenAfter (taken ++ (p ∷ [])) line) (takenAfter taken line)
 
 module _ (e : Env) where
   -- ---- where the node with the key X stands
@@ -99,6 +105,10 @@ module _ (e : Env) where
   abbrev pub ProvedReplacement : Bytes → Run e → Type 0
   ProvedReplacement X r = IsReplacement X (r .table) × (proved (r .log) X ≡ true)
 
+  -- the entries of X's bucket after the removals of a sweep at t
+  abbrev pub keptEntries : ℕ → Table → Bytes → List Entry
+  keptEntries t s X = select (staysEntry t) (bucketOf e s X .entries)
+
   -- the line of X's bucket after the removals of a sweep at t
   abbrev pub keptReplacements : ℕ → Table → Bytes → List Entry
   keptReplacements t s X = select (staysReplacement t) (bucketOf e s X .replacements)
@@ -107,6 +117,11 @@ module _ (e : Env) where
   abbrev pub ahead : ℕ → Run e → Bytes → List Entry
   ahead t r X =
       select (λ p. proved (r .log) (p .key) && ltb (began (r .log) (p .key)) (began (r .log) X)) (keptReplacements t (r .table) X)
+
+  -- the entries taken when it is X's turn: "after its removals and the seating of every proved one ahead of it that the sweep doesn't
+  -- pass over"
+  abbrev pub takenAhead : ℕ → Run e → Bytes → List Entry
+  takenAhead t r X = takenAfter (keptEntries t (r .table) X) (ahead t r X)
 
   -- ---- the order of the entries
 

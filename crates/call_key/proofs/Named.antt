@@ -5,12 +5,13 @@ use mathlib.Core.Bool.{true, false}
 use mathlib.Core.List.{List, [], _∷_, _++_, map, append-nil}
 use native.Mathlib.Omega.{arith}
 use borrow.Author.Tests.{eq-eqb, eqb-true, ltb-false, not-false}
-use lib.Dec.{eqb}
+use lib.Dec.{eqb, ltb}
 use lib.ListN.{length, getD}
 use Rattle.octets.specs.Octets.{Bytes, IsBytes, part, store, number, bigEndian}
 use Rattle.octets.proofs.Laws.{length-part, bytes-part, length-store, part-store, length-bigEndian, number-bigEndian}
 use Rattle.lists.specs.Lists.{first, any}
 use Rattle.lists.proofs.Laws.{byTest, never, passed, any-none, empty-append}
+use Rattle.node.specs.declared.Endpoint.{Endpoint}
 use Rattle.node.specs.declared.Node.{Node}
 use Rattle.entry.specs.declared.Entry.{Entry}
 use Rattle.entry.specs.declared.PingState.{PingState}
@@ -18,7 +19,7 @@ use Rattle.node.specs.declared.UnixSeconds.{UnixSeconds}
 use Rattle.entry.specs.Layout.{noEntry}
 use Rattle.distance.specs.Distance.{home}
 use Rattle.bucket_model.specs.Contents.{Contents, encodeBucket, decodeBucket}
-use Rattle.bucket_model.specs.Rules.{isOf, ofKey, toTail, ponged, onPong, hasEntry, freeEntry}
+use Rattle.bucket_model.specs.Rules.{maxEntries, isOf, ofKey, toTail, ponged, mayTake, onPong, hasEntry, freeEntry, rangeTaken}
 use Rattle.bucket_model.proofs.Kept.{sound-later, sound-pong}
 use Rattle.bucket_model.proofs.Values.{sound-encoded, decoded-sound, values-pong}
 use Rattle.bucket_rules.proofs.ByKey.{none-of, none-without}
@@ -59,6 +60,15 @@ first-is : (l : List Entry) → 1 ≤ length l → firstOf l ≡ headEntry (getD
 first-is [] h = absurd (omega arith)
 first-is (e ∷ l) h = refl
 
+-- none takes an entry where none is free
+may-not : (l : List Entry) (a : Endpoint) → ltb (length l) maxEntries ≡ false → mayTake l a ≡ false
+unfolding mayTake
+may-not l a full = rw full refl
+
+none-takes : (l rs : List Entry) → ltb (length l) maxEntries ≡ false → any (λ e. mayTake l (e .endpoint)) rs ≡ false
+none-takes l [] full = refl
+none-takes l (e ∷ rs) full = rw (may-not l (e .endpoint) full) (none-takes l rs full)
+
 module _ (now : ℕ) (key : Bytes) (b : Contents) (seated : hasEntry key b ≡ false) (free : freeEntry b ≡ false) where
   entries-stay : onPong now key b .entries ≡ b .entries
   unfolding onPong
@@ -67,7 +77,7 @@ module _ (now : ℕ) (key : Bytes) (b : Contents) (seated : hasEntry key b ≡ f
       let none : any (isOf key) l ≡ false = any-none (isOf key) l (empty-append [] (ofKey key l) (not-false _ seated) .1) in
       let stay : toTail key (ponged now) l ≡ l =
       ap₂ (λ (x y : List Entry). x ++ map (ponged now) y) (none-without key l none) (none-of key l none) ∙ append-nil l in
-      rw free stay
+      rw (none-takes l (ofKey key (b .replacements)) free) stay
 
   head-stays : firstOf (onPong now key b .entries) ≡ headEntry (headOf b)
   head-stays = ap firstOf entries-stay ∙ first-is (b .entries) (omega (arith, ltb-false (length (b .entries)) 16 free))
@@ -89,9 +99,11 @@ module _ (now : ℕ) (address : Bytes) (udp : ℕ) (key : Bytes) (b : Contents) 
   waits (packet.Pong q) =
       byTest (hasEntry key b)
       (λ t. rw t (λ e. let o = outcome-of e in never (cc)))
-      (λ t. byTest (freeEntry b)
-      (λ f. rw (t, f) (λ e. let o = outcome-of e in never (cc)))
-      (λ f. rw (t, f) (λ e.
+      (λ t. byTest (rangeTaken key b)
+      (λ u. rw (t, u) (λ e. let o = outcome-of e in never (cc)))
+      (λ u. byTest (freeEntry b)
+      (λ f. rw (t, u, f) (λ e. let o = outcome-of e in never (cc)))
+      (λ f. rw (t, u, f) (λ e.
       let o = outcome-of e in
       let same : headOf b .ping ≡ ping = cc in
       record {
@@ -100,7 +112,7 @@ module _ (now : ℕ) (address : Bytes) (udp : ℕ) (key : Bytes) (b : Contents) 
         seated = t;
         free = f;
         named = ap₂ headNode (ap (λ (r : Received). r .head) e) same;
-      })))
+      }))))
   waits (packet.FindNode q) = λ e. let o = outcome-of e in never (cc)
   waits (packet.Neighbors q) = λ e. let o = outcome-of e in never (cc)
   waits (packet.EnrRequest q) = λ e. let o = outcome-of e in never (cc)

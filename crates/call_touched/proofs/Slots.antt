@@ -13,7 +13,7 @@ use Rattle.lists.proofs.Laws.{and-left, and-right}
 use Rattle.distance.specs.Distance.{home}
 use Rattle.bucket_model.specs.Contents.{Contents, encodeBucket, decodeBucket}
 use Rattle.bucket_model.specs.Rules.{isProved}
-use Rattle.bucket_model.specs.Sound.{entrySound, mayWait, isFull, distinct, keepsRules, sound}
+use Rattle.bucket_model.specs.Sound.{entrySound, mayWait, rangesKept, distinct, keepsRules, sound}
 use Rattle.bucket_model.proofs.Sound.{BucketSound}
 use Rattle.bucket_model.proofs.Values.{decoded-sound}
 use Rattle.table_model.specs.Layout.{ownOf, clockOf, countOf, numberAt, offsetOf, bucketBytes, bucketAt}
@@ -36,7 +36,7 @@ module _ (q : Bytes → Bool) (clock : ℕ) (s : Bytes) (h : sound q clock s ≡
       let c = sameBytes (encodeBucket m) s in
       let d = all (entrySound q clock) (m .entries ++ m .replacements) in
       let e = distinct (m .entries ++ m .replacements) in
-      let f = all (λ p. isProved (p .proof)) (m .entries) && all (mayWait (isFull m)) (m .replacements) in
+      let f = all (λ p. isProved (p .proof)) (m .entries) && (rangesKept (m .entries) && all (mayWait (m .entries)) (m .replacements)) in
       and-left e f (and-right d (e && f) (and-right c (d && (e && f)) (and-right b (c && (d && (e && f))) (and-right a (b && (c && (d && (e && f)))) h))))
 
 module _ (s : Bytes) (slot : ℕ) (h : SoundAt s slot) where

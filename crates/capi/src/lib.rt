@@ -48,7 +48,7 @@ pub extern "C" fn coghammer_init(table: &mut [u8], key: &[u8], buckets: usize) -
 
 // A datagram came from the sender's address and UDP port, signed with this key; the key is empty where the signature recovers none. The
 // code of the answer number and, where it is 0, of the packet type and 256 times the outcome: of a Ping 1 if a ping is due; of a Pong 0 if
-// its sender was an entry, 1 if it took an entry, 2 if it waits; else 0.
+// its sender was an entry, 1 if it took an entry, 2 if it waits for one, 3 if it waits because its range has two; else 0.
 #[no_mangle]
 pub extern "C" fn coghammer_datagram(
     counters: &mut Counters,

@@ -2,7 +2,7 @@
 use Prim.Native.Nat.{ℕ, _+_, _*_, _%_}
 use mathlib.Core.Bool.{Bool, true, false}
 use Rattle.call_answer.specs.declared.Standing.{Standing}
-use Rattle.call_answer.specs.declared.Standing.the-variants.{Tail, TookEntry, Waiting}
+use Rattle.call_answer.specs.declared.Standing.the-variants.{Tail, TookEntry, RangeFull, Waiting}
 use Rattle.call_answer.specs.declared.Outcome.{Outcome}
 use Rattle.call_answer.specs.declared.Outcome.the-variants.{Refused, Ping, Pong, FindNode, Neighbors, EnrRequest, EnrResponse}
 use Rattle.call_answer.specs.declared.Received.{Received}
@@ -27,11 +27,12 @@ abbrev pub dueValue : Bool → ℕ
 dueValue true = 1
 dueValue false = 0
 
--- of an accepted Pong: its sender was an entry, took an entry, or waits
+-- of an accepted Pong: its sender was an entry, took an entry, waits for a free one, or waits since its range is full
 abbrev pub standingValue : Standing → ℕ
 standingValue Tail = 0
 standingValue TookEntry = 1
 standingValue (Waiting ping) = 2
+standingValue RangeFull = 3
 
 abbrev pub accepted : ℕ → ℕ → ℕ
 accepted kind outcome = code 0 (kind + 256 * outcome)

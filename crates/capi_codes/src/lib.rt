@@ -32,18 +32,19 @@ fn due_value(due: bool) -> u32
 }
 
 fn standing_value(standing: Standing) -> u32
-    ensures { λ r. ⌜ (r ≡ standingValue standing) × (r ≤ 2) ⌝ }
+    ensures { λ r. ⌜ (r ≡ standingValue standing) × (r ≤ 3) ⌝ }
 {
     match standing {
         Standing::Tail => 0,
         Standing::TookEntry => 1,
         Standing::Waiting(_) => 2,
+        Standing::RangeFull => 3,
     }
 }
 
 // The code of an accepted packet.
 fn accepted(kind: u32, outcome: u32) -> u32
-    requires { ⌜ (kind ≤ 6) × (outcome ≤ 2) ⌝ }
+    requires { ⌜ (kind ≤ 6) × (outcome ≤ 3) ⌝ }
     ensures { λ r. ⌜ r ≡ codes.accepted kind outcome ⌝ }
 {
     code(0, kind + 256 * outcome)

@@ -8,7 +8,7 @@ use Rattle.text.specs.Decimals.{decimal}
 use Rattle.text.specs.Rows.{row}
 use Rattle.printout_rows.specs.Rows.{entryWord, replacementWord, keyText, pingText}
 use Rattle.call_answer.specs.declared.Standing.{Standing}
-use Rattle.call_answer.specs.declared.Standing.the-variants.{Tail, TookEntry, Waiting}
+use Rattle.call_answer.specs.declared.Standing.the-variants.{Tail, TookEntry, RangeFull, Waiting}
 
 -- ---- the words
 
@@ -42,4 +42,5 @@ pingFields due = pongWord ∷ cond due (pingWord ∷ []) []
 abbrev pub pongFields : Standing → Bytes → List Bytes
 pongFields Tail key = tailWord ∷ []
 pongFields TookEntry key = entryWord ∷ []
+pongFields RangeFull key = replacementWord ∷ []
 pongFields (Waiting ping) key = replacementWord ∷ keyText key ∷ pingText ping ∷ []

@@ -100,6 +100,7 @@ pub fn put_pong(out: &mut [u8], standing: Standing, key: [u8; 64]) -> usize
     match standing {
         Standing::Tail => put_word_row(out, b"tail"),
         Standing::TookEntry => put_word_row(out, b"seat"),
+        Standing::RangeFull => put_word_row(out, b"wait"),
         Standing::Waiting(ping) => put_waiting(out, key, ping),
     }
 }

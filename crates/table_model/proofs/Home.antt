@@ -10,7 +10,7 @@ use Rattle.lists.specs.Lists.{all}
 use Rattle.lists.proofs.Laws.{and-left}
 use Rattle.entry.specs.declared.Entry.{Entry}
 use Rattle.bucket_model.specs.Contents.{Contents, encodeBucket, decodeBucket}
-use Rattle.bucket_model.specs.Sound.{entrySound, keepsRules, sound, inTime, addressForm, distinct, isFull, mayWait}
+use Rattle.bucket_model.specs.Sound.{entrySound, keepsRules, sound, inTime, addressForm, distinct, rangesKept, mayWait}
 use Rattle.bucket_model.specs.Rules.{isProved}
 use Rattle.distance.specs.Distance.{home}
 use Rattle.table_model.specs.Layout.{ownOf, clockOf, countOf, bucketBytes}
@@ -56,7 +56,7 @@ module _ (here : Bytes → Bool) (clock : ℕ) where
   unfolding keepsRules
   rules-split m =
       let l : List Entry = m .entries ++ m .replacements in
-      let rest : Bool = distinct l && (all (λ e. isProved (e .proof)) (m .entries) && all (mayWait (isFull m)) (m .replacements)) in
+      let rest : Bool = distinct l && (all (λ e. isProved (e .proof)) (m .entries) && (rangesKept (m .entries) && all (mayWait (m .entries)) (m .replacements))) in
       ap (λ b. b && rest) (entries-split l)
       ∙ and-swap (all atHome l) (all (entrySound anywhere clock) l) rest
       ∙ ap (λ b. (all (entrySound anywhere clock) l && rest) && b) (all-append atHome (m .entries) (m .replacements))

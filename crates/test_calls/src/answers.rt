@@ -46,6 +46,9 @@ fn print_standing(standing: Standing, head: Node) {
         Standing::TookEntry => {
             io::write_all(STDOUT_FILENO, b"\tseat");
         }
+        Standing::RangeFull => {
+            io::write_all(STDOUT_FILENO, b"\twait");
+        }
         Standing::Waiting(ping) => {
             io::write_all(STDOUT_FILENO, b"\twait");
             print_node(head, 64);

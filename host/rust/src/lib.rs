@@ -136,6 +136,9 @@ pub enum Standing {
     TookEntry,
     /// Waits: all entries are taken. [`Table::head`] has the one that stands first.
     Waiting,
+    /// Waits, whether or not entries are free: two are of its range, which is the first three bytes of a 4-byte
+    /// address. Nothing is due.
+    RangeFull,
 }
 
 /// The first entry of a bucket, and since when a ping is out to it.
@@ -234,7 +237,8 @@ impl Table {
             2 => Accepted::Pong(match outcome {
                 0 => Standing::Tail,
                 1 => Standing::TookEntry,
-                _ => Standing::Waiting,
+                2 => Standing::Waiting,
+                _ => Standing::RangeFull,
             }),
             3 => Accepted::FindNode,
             4 => Accepted::Neighbors,
@@ -274,7 +278,8 @@ impl Table {
         done(sys::ping_sent(counters, &mut self.bytes, clock, key, address, udp, tcp, hash))
     }
 
-    /// Removes nodes that didn't answer a ping in time, and fills what is free from those that wait.
+    /// Removes nodes that didn't answer a ping in time, and fills what is free from those that wait, up to two of
+    /// a range.
     pub fn sweep(&mut self, counters: &mut Counters, clock: MonotonicMillis) -> Result<(), Number> {
         done(sys::sweep(counters, &mut self.bytes, clock))
     }

@@ -57,6 +57,44 @@ fn fresh_tables() {
     }
 }
 
+/// C-16, in a table of bucket 255 alone: the third of a range waits beside free entries, and takes the one that a
+/// sweep frees.
+#[test]
+fn ranges() {
+    let mut table = Table::new(&OWN, 1).unwrap();
+    let mut counters = Counters::default();
+    let at = MonotonicMillis;
+    let hash = [4; 32];
+    let mapped = [0, 0, 0, 0, 0, 0, 0, 0, 0, 0, 255, 255, 192, 0, 2, 4];
+    // keys of other buckets get 12
+    let mut names = (2..).map(|name| [name; 64]);
+    let mut sent = |table: &mut Table, address: &[u8]| loop {
+        let key = names.next().unwrap();
+        match table.ping_sent(&mut Counters::default(), at(1), &key, address, 9, 9, &hash) {
+            Err(Number(12)) => {}
+            answer => return answer.map(|_| key).unwrap(),
+        }
+    };
+    let places = [
+        (&[192, 0, 2, 1][..], Standing::TookEntry),
+        (&[192, 0, 2, 2], Standing::TookEntry),
+        (&[192, 0, 2, 3], Standing::RangeFull),
+        (&[192, 0, 3, 1], Standing::TookEntry),
+        (&mapped, Standing::TookEntry),
+    ];
+    let keys = places.map(|(address, standing)| {
+        let key = sent(&mut table, address);
+        let answer = table.datagram(&mut counters, at(1), UNIX, address, 9, &key, &pong(&hash));
+        assert_eq!(answer, Ok(Accepted::Pong(standing)));
+        key
+    });
+    let rank = |table: &Table, key: &[u8; 64]| table.find(key).unwrap().map(|held| held.rank);
+    assert_eq!(rank(&table, &keys[2]), Some(Rank::Replacement));
+    assert_eq!(table.ping_sent(&mut counters, at(1), &keys[0], places[0].0, 9, 9, &hash), Ok(()));
+    assert_eq!(table.sweep(&mut counters, at(502)), Ok(()));
+    assert_eq!([0, 2].map(|node| rank(&table, &keys[node])), [None, Some(Rank::Entry)]);
+}
+
 /// A number in words, as an error of any host.
 #[test]
 fn numbers_in_words() -> Result<(), Box<dyn std::error::Error>> {

@@ -6,7 +6,10 @@ mod common;
 
 use std::collections::BTreeMap;
 
-use coghammer::{Counters, Held, MonotonicMillis, Node, Number, Packet, Rank, State, Table, UnixSeconds};
+use coghammer::{
+    Accepted, Counters, Held, MonotonicMillis, Node, Number, Packet, Rank, Standing, State, Table,
+    UnixSeconds,
+};
 use common::{accepted, compare_reading, counted, fields, head, head_of, node, told};
 use reference::bucket::{Bucket, PongOutcome, Position};
 use reference::calls::{Call, Reply};
@@ -220,7 +223,10 @@ fn sequences() {
     }
     let wanted = WANTED.iter().flat_map(|(name, numbers)| numbers.iter().map(move |n| format!("{name} {n}")));
     let ranks = [None, Some(Rank::Entry), Some(Rank::Replacement)].map(|rank| format!("find, {rank:?}"));
-    let missing: Vec<String> = wanted.chain(ranks).filter(|what| !reached.contains_key(what)).collect();
+    let standings = [Standing::Tail, Standing::TookEntry, Standing::Waiting, Standing::RangeFull]
+        .map(|standing| format!("datagram, {:?}", Accepted::Pong(standing)));
+    let wanted = wanted.chain(ranks).chain(standings);
+    let missing: Vec<String> = wanted.filter(|what| !reached.contains_key(what)).collect();
     assert!(missing.is_empty() || total < 20_000, "never reached: {}", missing.join("; "));
     counted(made, "calls on sound tables agree in answer, fields, counters and every table byte");
     counted(reached["printout"], "states and printouts agree");

@@ -7,6 +7,9 @@ use crate::packet::{Endpoint, Node};
 /// "Sixteen seats and four waiting places are constants of the bucket."
 pub const ENTRIES: usize = 16;
 pub const REPLACEMENTS: usize = 4;
+/// "Of the seats of a bucket at most two may have 4-byte addresses with the same first three bytes (a
+/// range)" (C-16).
+pub const OF_A_RANGE: usize = 2;
 /// A ping is answered "in time up to and including 500 ms".
 pub const PING_TIMEOUT: u64 = 500;
 /// A node is verified while "its proof is at most 43,200,000 ms old".
@@ -61,6 +64,11 @@ impl Entry {
     }
 }
 
+/// The range of an address; "16-byte addresses aren't counted", IPv4-mapped or not.
+pub fn range(address: &[u8]) -> Option<&[u8]> {
+    (address.len() == 4).then(|| &address[..3])
+}
+
 #[derive(Clone, Debug, Default, PartialEq, Eq)]
 pub struct Bucket {
     /// The seats, head first. "Head is the seat put at the tail longest ago."
@@ -101,6 +109,30 @@ impl Bucket {
         self.find(key).map(|position| self.get(position))
     }
 
+    /// How many seats are of the address's range; 0 for an address without one.
+    pub fn of_range(&self, address: &[u8]) -> usize {
+        let same = |entry: &&Entry| range(&entry.endpoint.address) == range(address);
+        range(address).map_or(0, |_| self.entries.iter().filter(same).count())
+    }
+
+    /// "its range has two seats"
+    pub fn is_range_full(&self, address: &[u8]) -> bool {
+        self.of_range(address) >= OF_A_RANGE
+    }
+
+    /// "a free seat and, for a 4-byte address, fewer than two seats of its range"
+    pub fn has_seat_for(&self, address: &[u8]) -> bool {
+        self.entries.len() < ENTRIES && !self.is_range_full(address)
+    }
+
+    /// "at most two seats of a range", and "proved waiting nodes beside free seats only if their range is at
+    /// two" (C-16)
+    pub fn keeps_ranges(&self) -> bool {
+        let two = |entry: &Entry| self.of_range(&entry.endpoint.address) <= OF_A_RANGE;
+        let waits = |entry: &Entry| entry.proof.is_none() || !self.has_seat_for(&entry.endpoint.address);
+        self.entries.iter().all(two) && self.replacements.iter().all(waits)
+    }
+
     fn move_to_tail(&mut self, index: usize) {
         let entry = self.entries.remove(index).unwrap();
         self.entries.push_back(entry);
@@ -117,6 +149,13 @@ impl Bucket {
             Position::Entry(index) => {
                 self.move_to_tail(index);
                 PongOutcome::Tail
+            }
+            // "A waiting node isn't seated while its range has two seats, even with seats free, and its
+            // pong then names no head"
+            Position::Replacement(index)
+                if self.is_range_full(&self.replacements[index].endpoint.address) =>
+            {
+                PongOutcome::RangeFull
             }
             // "A waiting node takes a free seat at the tail,
             Position::Replacement(index) if self.entries.len() < ENTRIES => {
@@ -148,11 +187,12 @@ impl Bucket {
         // then every waiting node with a proof older than 43,200,000 ms;
         self.replacements.retain(|entry| !entry.has_old_proof(now));
         // then seat proved waiting nodes in line order at the tail while seats are free, ping state
-        // and last seen kept."
-        while self.entries.len() < ENTRIES {
-            let Some(first) = self.replacements.iter().position(|entry| entry.proof.is_some()) else {
-                break;
-            };
+        // and last seen kept." Nodes whose range has two seats are passed over; a seat given in this
+        // sweep counts, one lost in it doesn't.
+        let may = |bucket: &Bucket, entry: &Entry| {
+            entry.proof.is_some() && bucket.has_seat_for(&entry.endpoint.address)
+        };
+        while let Some(first) = self.replacements.iter().position(|entry| may(self, entry)) {
             let entry = self.replacements.remove(first).unwrap();
             self.entries.push_back(entry);
         }
@@ -166,6 +206,8 @@ pub enum PongOutcome {
     Tail,
     /// Took a free seat.
     Seat,
-    /// Stays in line; the head seat and its ping state.
+    /// Stays in line since its range has two seats; no head is named.
+    RangeFull,
+    /// Stays in line since no seat is free; the head seat and its ping state.
     Wait { head: Node, ping: PingState },
 }

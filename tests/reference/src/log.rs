@@ -147,9 +147,10 @@ pub fn values(accepted: &Accepted) -> String {
         (Outcome::Ping { ping_due: false }, _) => "pong".to_string(),
         (Outcome::Ping { ping_due: true }, _) => "pong\tping".to_string(),
         // pong `tail` (was seated), `seat` (now seated), or `wait`, the head's first 8 key bytes,
-        // `quiet` or its millisecond;
+        // `quiet` or its millisecond; (C-16: "`wait` alone" where the range has two seats)
         (Outcome::Pong(PongOutcome::Tail), _) => "tail".to_string(),
         (Outcome::Pong(PongOutcome::Seat), _) => "seat".to_string(),
+        (Outcome::Pong(PongOutcome::RangeFull), _) => "wait".to_string(),
         (Outcome::Pong(PongOutcome::Wait { head, ping }), _) => {
             format!("wait\t{}\t{}", hex(&head.key[..8]), ping_text(ping))
         }

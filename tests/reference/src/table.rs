@@ -322,9 +322,7 @@ impl Table {
                 && bucket.replacements.iter().all(|entry| {
                     entry.proof.is_some() || entry.ping != PingState::Quiet
                 })
-                // "proved waiting nodes only where 16 seats are taken"
-                && (bucket.entries.len() == ENTRIES
-                    || bucket.replacements.iter().all(|entry| entry.proof.is_none()))
+                && bucket.keeps_ranges()
         })
     }
 }

@@ -165,16 +165,16 @@ fn l7_the_printout() {
     let mut log = Log::new();
     // times of 0 are printed as 0; none is `-`; UDP before TCP
     assert_eq!(log.meet(0, &near), "0\tseat");
-    assert_eq!(log.sent_to(0, &near, &V4, PORT), "0");
+    assert_eq!(log.sent(0, &near), "0");
     assert_eq!(log.sent_to(0, &far[0], &[0xab; 16], 1), "0");
     assert_eq!(log.sent(0, &far[1]), "0");
+    let (wide, [seat, line]) = ("ab".repeat(16), [&near, &far[1]].map(|key| hex(&address_of(key))));
     let [near, first, second] = [&near, &far[0], &far[1]].map(|key| hex(&key[..8]));
-    let (wide, narrow) = ("ab".repeat(16), "c0000207");
     let expected = format!(
         "table\t16\t0\t1\t2\n\
-         seat\t254\t1\t{near}\t{narrow}\t30303\t30303\t0\t0\t0\n\
+         seat\t254\t1\t{near}\t{seat}\t30303\t30303\t0\t0\t0\n\
          wait\t256\t1\t{first}\t{wide}\t1\t30303\t0\t-\t0\n\
-         wait\t256\t2\t{second}\t{narrow}\t30303\t30303\t0\t-\t0\n"
+         wait\t256\t2\t{second}\t{line}\t30303\t30303\t0\t-\t0\n"
     );
     assert_eq!(log.printout(), expected);
     // the clock is that of the last accepted call

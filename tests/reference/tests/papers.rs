@@ -204,10 +204,10 @@ fn slip_replayed_packet_from_elsewhere() {
     log.meet(1, &key);
     // its ping, replayed from another port: a pong is due there, no ping, and the entry stays
     let before = log.line_of(&key);
-    assert_eq!(log.rx_from(2, &V4, 1, &key, &ping(0)), "0\tpong");
+    assert_eq!(log.rx_from(2, &address_of(&key), 1, &key, &ping(0)), "0\tpong");
     assert_eq!(log.line_of(&key), before);
     // a ping sent there is refused, so a sweep has nothing to remove
-    assert_eq!(log.sent_to(3, &key, &V4, 1), "16");
+    assert_eq!(log.sent_to(3, &key, &address_of(&key), 1), "16");
     assert_eq!(log.sweep(2000), "0");
     assert_eq!(log.line_of(&key), before);
 }

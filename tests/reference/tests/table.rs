@@ -64,7 +64,7 @@ fn t6_the_tcp_port_stays() {
     let hash = reference::hex(&hash_of(&key));
     let mut log = Log::new();
     assert_eq!(log.line(&format!("sent\t1\t{text}\tc0000207\t30303\t5\t{hash}")), "0");
-    assert_eq!(log.pong(2, &key), "0\tseat");
+    assert_eq!(log.pong_from(2, &key, &V4), "0\tseat");
     assert_eq!(log.line(&format!("sent\t3\t{text}\tc0000207\t30303\t6\t{hash}")), "0");
     assert!(log.line_of(&key).unwrap().ends_with("\tc0000207\t30303\t5\t2\t2\t3"));
 }
@@ -78,7 +78,7 @@ fn t7_ping_sent() {
     assert_eq!((log.order("seat").len(), log.order("wait").len()), (0, 1));
     assert!(log.line_of(&keys[0]).unwrap().ends_with("\t0\t-\t1"));
     // 16 before 17; 17 also if the ping is overdue
-    assert_eq!(log.sent_to(2, &keys[0], &V4, 1), "16");
+    assert_eq!(log.sent_to(2, &keys[0], &address_of(&keys[0]), 1), "16");
     assert_eq!(log.sent_to(2, &keys[0], &[1, 2, 3, 4], PORT), "16");
     assert_eq!(log.sent(5000, &keys[0]), "17");
     for key in &keys[1..4] {
@@ -109,7 +109,7 @@ fn t8_pings_from_unverified_nodes() {
     let before = log.line_of(&keys[0]);
     assert_eq!(log.rx(3, &keys[0], &ping(0)), "0\tpong");
     // elsewhere: never a ping
-    assert_eq!(log.rx_from(3, &V4, 1, &keys[0], &ping(0)), "0\tpong");
+    assert_eq!(log.rx_from(3, &address_of(&keys[0]), 1, &keys[0], &ping(0)), "0\tpong");
     assert_eq!(log.line_of(&keys[0]), before);
     assert_eq!(clock(&log), 3);
     // held, quiet, proof too old: a ping is due and only the clock changes
@@ -122,7 +122,7 @@ fn t8_pings_from_unverified_nodes() {
     // the other's proof is exactly twelve hours old: verified, to the tail
     assert_eq!(log.rx(5 + TWELVE_HOURS, &keys[1], &ping(0)), "0\tpong");
     // elsewhere with an old proof: no ping
-    assert_eq!(log.rx_from(5 + TWELVE_HOURS, &V4, 1, &keys[0], &ping(0)), "0\tpong");
+    assert_eq!(log.rx_from(5 + TWELVE_HOURS, &address_of(&keys[0]), 1, &keys[0], &ping(0)), "0\tpong");
     // a ping out: no second one
     log.sent(6 + TWELVE_HOURS, &keys[0]);
     assert_eq!(log.rx(6 + TWELVE_HOURS, &keys[0], &ping(0)), "0\tpong");
@@ -210,8 +210,8 @@ fn order_of_seats() {
     // a verified sender goes to the tail; from elsewhere, or refused, it doesn't
     log.rx(4, &keys[0], &find_node());
     assert_eq!(log.order("seat"), names(&[keys[1], keys[2], keys[0]]));
-    log.rx_from(5, &V4, 1, &keys[1], &ping(0));
-    log.rx_from(5, &V4, 1, &keys[1], &find_node());
+    log.rx_from(5, &address_of(&keys[1]), 1, &keys[1], &ping(0));
+    log.rx_from(5, &address_of(&keys[1]), 1, &keys[1], &find_node());
     assert_eq!(log.order("seat"), names(&[keys[1], keys[2], keys[0]]));
     log.rx(6, &keys[1], &ping(0));
     assert_eq!(log.order("seat"), names(&[keys[2], keys[0], keys[1]]));
@@ -229,10 +229,10 @@ fn pongs_not_awaited() {
     assert_eq!(log.pong(1, &keys[0]), "14"); // not held
     log.sent(1, &keys[0]);
     assert_eq!(log.rx(2, &keys[0], &pong(&[9; 32])), "14"); // another hash
-    assert_eq!(log.rx_from(2, &V4, 1, &keys[0], &pong(&hash_of(&keys[0]))), "14"); // another port
+    assert_eq!(log.rx_from(2, &address_of(&keys[0]), 1, &keys[0], &pong(&hash_of(&keys[0]))), "14"); // another port
     assert_eq!(log.rx_from(2, &[1, 1, 1, 1], PORT, &keys[0], &pong(&hash_of(&keys[0]))), "14");
     assert_eq!(log.rx(2, &keys[1], &pong(&hash_of(&keys[0]))), "14"); // another signer
-    assert_eq!(log.rx_from(600, &V4, 1, &keys[0], &pong(&hash_of(&keys[0]))), "14"); // 14 before 15
+    assert_eq!(log.rx_from(600, &address_of(&keys[0]), 1, &keys[0], &pong(&hash_of(&keys[0]))), "14"); // 14 before 15
     assert_eq!(log.pong(502, &keys[0]), "15");
     assert_eq!(log.pong(2, &keys[0]), "0\tseat");
 }

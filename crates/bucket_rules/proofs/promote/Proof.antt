@@ -15,18 +15,18 @@ replacements-size : (c : tie.Start) → length (c .args .b .replacements .items)
 replacements-size c = search (needs, length-mapped)
 
 push-requires : tie.Need-push-requires
-push-requires c κs = let start = c .before .before .before .before in
-    room-for-one (start .args .b) (entries-size start) (start .pre .0 .entries) (sym (c .before .free-entry .ensures) ∙ c .if1 .taken)
+push-requires c κs = let start = c .before .before .before .before .before in
+    room-for-one (start .args .b) (start .args .e .endpoint) (entries-size start) (start .pre .0 .entries) (sym (c .before .may-take .ensures) ∙ c .if1 .taken)
 
 returns : tie.Need-returns
-returns c = let start = c .before .before .before .before .before .before in
+returns c = let start = c .before .before .before .before .before .before .before in
     promoted-free (start .args .b) (entries-size start) (replacements-size start) (start .pre .0) (start .args .i) (start .args .e)
-    (c .before .push .result) (c .remove .result) (sym (c .before .before .before .free-entry .ensures) ∙ c .before .before .if1 .taken) (c .before .push .ensures) (c .remove .ensures)
+    (c .before .push .result) (c .remove .result) (sym (c .before .before .before .may-take .ensures) ∙ c .before .before .if1 .taken) (c .before .push .ensures) (c .remove .ensures)
 
 returns-2 : tie.Need-returns-2
-returns-2 c = let start = c .before .before .before .before .before in
+returns-2 c = let start = c .before .before .before .before .before .before in
     promoted-full (start .args .b) (entries-size start) (replacements-size start) (start .pre .0) (start .args .i) (start .args .e)
-    (c .replace .result) (sym (c .before .before .free-entry .ensures) ∙ c .before .if1 .left) (c .replace .ensures)
+    (c .replace .result) (sym (c .before .before .may-take .ensures) ∙ c .before .if1 .left) (c .replace .ensures)
 
 pub promote-spec : {M : Type 1} → statement M
 promote-spec =

@@ -16,19 +16,19 @@ replacements-size : (c : tie.Start) → length (c .args .b .replacements .items)
 replacements-size c = search (needs, length-mapped)
 
 push-requires : tie.Need-push-requires
-push-requires c κs = let start = c .before .before .before .before .before .before in
+push-requires c κs = let start = c .before .before .before .before .before .before .before in
     moves-free (start .args .b) (start .args .e) (entries-size start) (replacements-size start) (start .pre .0) (omega (arith, start .pre .1))
-    (c .before .before .before .is-proved .ensures) (c .before .before .free-entry .ensures) (c .before .both .ensures) (c .if1 .taken)
+    (c .before .before .before .is-proved .ensures) (c .before .before .may-take .ensures) (c .before .both .ensures) (c .if1 .taken)
 
 returns : tie.Need-returns
-returns c = let start = c .before .before .before .before .before .before .before in
+returns c = let start = c .before .before .before .before .before .before .before .before in
     one-moves (start .args .b) (start .args .e) (entries-size start) (replacements-size start) (start .pre .0) (omega (arith, start .pre .1))
-    (c .before .before .before .before .is-proved .ensures) (c .before .before .before .free-entry .ensures) (c .before .before .both .ensures) (c .push .result) (c .before .if1 .taken) (c .push .ensures)
+    (c .before .before .before .before .is-proved .ensures) (c .before .before .before .may-take .ensures) (c .before .before .both .ensures) (c .push .result) (c .before .if1 .taken) (c .push .ensures)
 
 returns-2 : tie.Need-returns-2
-returns-2 c = let start = c .before .before .before .before .before .before .before in
+returns-2 c = let start = c .before .before .before .before .before .before .before .before in
     one-stays (start .args .b) (start .args .e) (entries-size start) (replacements-size start) (start .pre .0) (omega (arith, start .pre .1))
-    (c .before .before .before .before .is-proved .ensures) (c .before .before .before .free-entry .ensures) (c .before .before .both .ensures) (c .push2 .result) (c .before .if1 .left) (c .push2 .ensures)
+    (c .before .before .before .before .is-proved .ensures) (c .before .before .before .may-take .ensures) (c .before .before .both .ensures) (c .push2 .result) (c .before .if1 .left) (c .push2 .ensures)
 
 pub promote-one-spec : {M : Type 1} → statement M
 promote-one-spec =

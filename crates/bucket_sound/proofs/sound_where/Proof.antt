@@ -20,11 +20,17 @@ returns-2 : tie.Need-returns-2
 returns-2 c = let start = c .before .before .before .before .before .before in let args = start .args in too-many-waiting (homeIf (args .tested) (args .own .now) (args .number)) (args .clock .0) (args .bytes .now) (args .at) (start .pre .0) (c .before .if1 .left) (c .if2 .taken)
 
 returns-3 : tie.Need-returns-3
-returns-3 c = let start = c .before .before .before .before .before .before .before .before .before .before .before .before .before .before .before .before .before in
+returns-3 c = let at-records = c .before .before .before .before .before .before .before .before in
+    let at-tests = at-records .before .before .before .before .before .before .before in
+    let start = at-tests .before .before .before .before .before .before in
     let args = start .args in
-    sound-done (homeIf (args .tested) (args .own .now) (args .number)) (args .clock .0) (args .bytes .now) (args .at) (start .pre .0) (λ k. c .before .before .before .before .before .before .before .before .before .before .before .before .before .before .before .before .shared-slice-known .given k .fits) (c .before .before .before .before .before .before .before .before .before .before .before .before .if1 .left) (c .before .before .before .before .before .before .before .before .before .before .before .if2 .left)
-    (c .before .before .before .before .before .before .before .before .before .before .zeros .ensures) (c .before .before .before .before .before .before .before .before .before .zeros2 .ensures) (c .before .before .before .before .before .before .before .before .both .ensures) (c .before .before .before .before .before .before .before .keys-apart .ensures) (c .before .before .before .before .before .before .keys-apart2 .ensures) (c .before .before .before .before .before .both2 .ensures)
-    (c .before .before .before .before .records-sound .ensures) (c .before .before .before .records-sound2 .ensures) (c .before .before .both3 .ensures) (c .before .both4 .ensures) (c .both5 .ensures)
+    sound-done (homeIf (args .tested) (args .own .now) (args .number)) (args .clock .0) (args .bytes .now) (args .at) (start .pre .0)
+    (λ k. at-tests .before .before .before .before .before .shared-slice-known .given k .fits) (at-tests .before .if1 .left) (at-tests .if2 .left)
+    (at-records .before .before .before .before .before .before .zeros .ensures) (at-records .before .before .before .before .before .zeros2 .ensures) (at-records .before .before .before .before .both .ensures)
+    (at-records .before .before .before .keys-apart .ensures) (at-records .before .before .keys-apart2 .ensures) (at-records .before .both2 .ensures)
+    (at-records .records-sound .ensures) (c .before .before .before .before .before .before .before .records-sound2 .ensures)
+    (c .before .before .before .before .before .before .ranges-kept .ensures) (c .before .before .before .before .before .line-settled .ensures) (c .before .before .before .before .both3 .ensures)
+    (c .before .before .before .both4 .ensures) (c .before .before .both5 .ensures) (c .before .both6 .ensures) (c .both7 .ensures)
 
 pub sound-where-spec : {M : Type 1} → statement M
 sound-where-spec =
@@ -46,6 +52,10 @@ sound-where-spec =
     (λ c. search needs)
     (λ c. search needs)
     (λ c. search needs)
+    (λ c κs. search needs)
+    (λ c κs. search needs)
+    (λ c κs. search needs)
+    (λ c κs. search needs)
     (λ c κs. search needs)
     (λ c κs. search needs)
     (λ c κs. search needs)

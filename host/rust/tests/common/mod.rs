@@ -41,6 +41,7 @@ pub fn accepted(answer: &table::Accepted) -> Accepted {
         (Outcome::Pong(PongOutcome::Tail), _) => Accepted::Pong(Standing::Tail),
         (Outcome::Pong(PongOutcome::Seat), _) => Accepted::Pong(Standing::TookEntry),
         (Outcome::Pong(PongOutcome::Wait { .. }), _) => Accepted::Pong(Standing::Waiting),
+        (Outcome::Pong(PongOutcome::RangeFull), _) => Accepted::Pong(Standing::RangeFull),
         (Outcome::Other, 3) => Accepted::FindNode,
         (Outcome::Other, 4) => Accepted::Neighbors,
         (Outcome::Other, 5) => Accepted::EnrRequest,

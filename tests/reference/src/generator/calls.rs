@@ -3,7 +3,7 @@
 use super::datagrams;
 use super::peers::{elsewhere, random_endpoint, random_port, Peer, Peers};
 use super::random::Random;
-use crate::bucket::{Bucket, Entry, PingState, ENTRIES, PING_TIMEOUT, PROOF_LIFETIME};
+use crate::bucket::{range, Bucket, Entry, PingState, ENTRIES, PING_TIMEOUT, PROOF_LIFETIME};
 use crate::calls::Call;
 use crate::packet::Endpoint;
 use crate::table::Table;
@@ -30,6 +30,7 @@ enum Action {
     PingNew,
     PingHeld,
     PingFull,
+    PingRange,
     PingElsewhere,
     PingFaulty,
     Pong,
@@ -46,11 +47,12 @@ enum Action {
 
 /// How often each action is taken, by phase.
 #[rustfmt::skip]
-const WEIGHTS: [(Action, [usize; 5]); 15] = [
+const WEIGHTS: [(Action, [usize; 5]); 16] = [
     //                        Fill Chatter Silence Edges Faults
     (Action::PingNew,         [40,  5, 15, 15,  5]),
     (Action::PingHeld,        [ 5,  5, 30, 20,  5]),
     (Action::PingFull,        [ 4,  1, 15,  4,  1]),
+    (Action::PingRange,       [ 3,  1, 20,  4,  1]),
     (Action::PingElsewhere,   [ 2,  1,  4,  2,  5]),
     (Action::PingFaulty,      [ 1,  1,  1,  1, 12]),
     (Action::Pong,            [40, 10, 10, 25, 10]),
@@ -64,6 +66,13 @@ const WEIGHTS: [(Action, [usize; 5]); 15] = [
     (Action::Sweep,           [ 2,  2, 12, 12,  2]),
     (Action::Closest,         [10, 10, 10, 10, 10]),
 ];
+
+/// A proved node of the seat's range waits in its bucket.
+fn is_waited_for(bucket: &Bucket, seat: &Entry) -> bool {
+    let wanted = range(&seat.endpoint.address);
+    let same = |entry: &Entry| entry.proof.is_some() && range(&entry.endpoint.address) == wanted;
+    wanted.is_some() && bucket.replacements.iter().any(same)
+}
 
 /// A source of calls.
 pub struct Calls {
@@ -206,6 +215,26 @@ impl Calls {
                 let seat = if self.random.chance(50) { 0 } else { self.random.below(ENTRIES) };
                 let entry = &bucket.entries[seat];
                 let now = self.moment(table, None);
+                if self.random.chance(20) {
+                    self.planned_sweep = now.checked_add(PING_TIMEOUT + 1);
+                }
+                self.ping(now, entry.key.to_vec(), entry.endpoint.clone())
+            }
+            Action::PingRange => {
+                // a seat of a range that a proved node waits for, often left to a sweep
+                let seats: Vec<&Entry> = table
+                    .iter()
+                    .flat_map(|table| &table.buckets)
+                    .flat_map(|bucket| bucket.entries.iter().filter(|seat| is_waited_for(bucket, seat)))
+                    .collect();
+                if seats.is_empty() {
+                    return self.act(Action::PingFull, table);
+                }
+                let entry = *self.random.pick(&seats);
+                let now = self.moment(table, None);
+                if self.random.chance(50) {
+                    self.planned_sweep = now.checked_add(PING_TIMEOUT + 1);
+                }
                 self.ping(now, entry.key.to_vec(), entry.endpoint.clone())
             }
             Action::PingElsewhere => match self.held(table, |_, _| true) {

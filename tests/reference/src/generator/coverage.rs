@@ -1,16 +1,17 @@
 //! Counts of the answers, and of the cases at the edges of the rules, that a log reaches.
 
-use std::collections::BTreeMap;
+use std::collections::{BTreeMap, VecDeque};
 use std::fmt;
 
-use crate::bucket::{Entry, PingState, ENTRIES, PING_TIMEOUT, PROOF_LIFETIME, REPLACEMENTS};
+use super::peers::mapped;
+use crate::bucket::{range, Bucket, Entry, PingState, ENTRIES, PING_TIMEOUT, PROOF_LIFETIME, REPLACEMENTS};
 use crate::calls::Call;
 use crate::log::{read, Line, Replay};
 use crate::packet::{self, Packet};
 
 /// Every case that is counted. A few seeds together must reach all of them.
 #[rustfmt::skip]
-pub const CASES: [&str; 46] = [
+pub const CASES: [&str; 54] = [
     "answer 0", "answer 1", "answer 2", "answer 3", "answer 4", "answer 5", "answer 6", "answer 7",
     "answer 8", "answer 9", "answer 10", "answer 11", "answer 12", "answer 13", "answer 14",
     "answer 15", "answer 16", "answer 17", "answer 18", "answer 21",
@@ -19,6 +20,10 @@ pub const CASES: [&str; 46] = [
     "pong after 500 ms", "pong after 501 ms",
     "sweep at 500 ms", "sweep at 501 ms",
     "sweep seats a waiting node", "sweep seats two or more",
+    "range full, seats free", "range full, no seat free", "wait, range free, no seat free",
+    "sweep passes over a range and seats one behind it", "sweep frees a range and fills it",
+    "sweep seats the first of two of a range", "mapped address seated beside its range full",
+    "16-byte address seated beside two that begin alike",
     "sweep at 43,200,000 ms, waiting", "sweep at 43,200,001 ms, waiting",
     "sweep drops an old proof with a ping out in time",
     "proof of 43,200,000 ms verifies", "proof of 43,200,001 ms doesn't",
@@ -26,6 +31,37 @@ pub const CASES: [&str; 46] = [
     "16-byte address accepted", "13 or more nodes accepted", "line of 3,000 bytes",
     "ping from an unknown address accepted",
 ];
+
+/// Cases of the pong of a waiting node, and how its answer begins.
+const PONG_CASES: [(&str, &str); 5] = [
+    ("range full, seats free", "0\twait"),
+    ("range full, no seat free", "0\twait"),
+    ("wait, range free, no seat free", "0\twait\t"),
+    ("mapped address seated beside its range full", "0\tseat"),
+    ("16-byte address seated beside two that begin alike", "0\tseat"),
+];
+
+/// Those that the pong of a waiting node at this address comes to, by the bucket before it.
+fn pong_cases(bucket: &Bucket, address: &[u8]) -> Vec<&'static str> {
+    let mut cases = Vec::new();
+    let free = bucket.entries.len() < ENTRIES;
+    match (bucket.is_range_full(address), free) {
+        (true, true) => cases.push("range full, seats free"),
+        (true, false) => cases.push("range full, no seat free"),
+        (false, false) if address.len() == 4 => cases.push("wait, range free, no seat free"),
+        _ => {}
+    }
+    if address.len() == 16 && free {
+        if address[..12] == mapped(&[])[..] && bucket.is_range_full(&address[12..]) {
+            cases.push("mapped address seated beside its range full");
+        }
+        let alike = |entry: &&Entry| entry.endpoint.address[..3] == address[..3];
+        if bucket.entries.iter().filter(alike).count() >= 2 {
+            cases.push("16-byte address seated beside two that begin alike");
+        }
+    }
+    cases
+}
 
 #[derive(Default)]
 pub struct Coverage {
@@ -85,14 +121,35 @@ impl Coverage {
                             pending.push("sweep drops an old proof with a ping out in time");
                         }
                     }
-                    // those that a sweep seats
-                    let free = ENTRIES - bucket.entries.iter().filter(|entry| !overdue(entry)).count();
-                    let seated = free.min(proofs().filter(|(_, age)| *age <= PROOF_LIFETIME).count());
-                    if seated >= 1 {
+                    // those that a sweep seats, and those that it passes over
+                    let mut swept = bucket.clone();
+                    swept.sweep(*now);
+                    let is_in =
+                        |line: &VecDeque<Entry>, entry: &Entry| line.iter().any(|e| e.key == entry.key);
+                    let seated = |entry: &&Entry| is_in(&swept.entries, entry);
+                    let passed = |entry: &&Entry| entry.proof.is_some() && is_in(&swept.replacements, entry);
+                    let line = &bucket.replacements;
+                    if line.iter().filter(seated).count() >= 1 {
                         pending.push("sweep seats a waiting node");
                     }
-                    if seated >= 2 {
+                    if line.iter().filter(seated).count() >= 2 {
                         pending.push("sweep seats two or more");
+                    }
+                    let first = line.iter().position(|entry| passed(&entry));
+                    if first.is_some_and(|first| line.iter().skip(first).any(|entry| seated(&entry))) {
+                        pending.push("sweep passes over a range and seats one behind it");
+                    }
+                    for entry in line.iter().filter(seated) {
+                        let address = &entry.endpoint.address;
+                        if bucket.is_range_full(address) && swept.is_range_full(address) {
+                            pending.push("sweep frees a range and fills it");
+                        }
+                        let second = |other: &Entry| {
+                            passed(&other) && range(&other.endpoint.address) == range(address)
+                        };
+                        if swept.entries.len() < ENTRIES && line.iter().any(second) {
+                            pending.push("sweep seats the first of two of a range");
+                        }
                     }
                 }
             }
@@ -100,6 +157,10 @@ impl Coverage {
                 let held = (signer.len() == 64).then(|| table.held(signer)).flatten();
                 let Some(entry) = held.filter(|entry| entry.is_at(address, *port)) else { return };
                 let kind = datagram.get(97).copied().unwrap_or(0);
+                let bucket = &table.buckets[table.index(&entry.id).expect("a held node's bucket is kept")];
+                if kind == 2 && bucket.replacements.contains(entry) {
+                    pending.extend(pong_cases(bucket, address));
+                }
                 match entry.ping {
                     PingState::Out(since) if kind == 2 && now - since == 500 => {
                         pending.push("pong after 500 ms")
@@ -125,6 +186,13 @@ impl Coverage {
         let number = fields.next().unwrap_or("");
         self.raise(&format!("answer {number}"));
         for case in std::mem::take(&mut self.pending) {
+            // what a waiting node's pong must be answered with
+            if let Some((_, words)) = PONG_CASES.iter().find(|(known, _)| *known == case) {
+                if answer == *words || words.ends_with('\t') && answer.starts_with(words) {
+                    self.raise(case);
+                }
+                continue;
+            }
             let expected = match case {
                 "pong after 501 ms" => "15",
                 "proof of 43,200,001 ms doesn't" => "13",
@@ -142,6 +210,7 @@ impl Coverage {
         }
         let values: Vec<&str> = fields.collect();
         match &values[..] {
+            ["wait"] => {} // told by the state before it
             ["wait", _, "quiet"] => self.raise("wait, head quiet"),
             ["wait", ..] => self.raise("wait, head pinged"),
             _ => self.raise(&values.join(" ")),

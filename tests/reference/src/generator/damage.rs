@@ -1,7 +1,7 @@
 //! Bytes that make a sound table unsound: each kind breaks one sentence of docs/LAYOUT.md.
 
 use super::random::Random;
-use crate::bucket::{Bucket, Entry, PingState, ENTRIES, REPLACEMENTS};
+use crate::bucket::{range, Bucket, Entry, PingState, ENTRIES, OF_A_RANGE, REPLACEMENTS};
 use crate::keccak::keccak256;
 use crate::layout::{size, ENTRY, LINE, SEATS};
 use crate::table::Table;
@@ -53,6 +53,8 @@ kinds! {
     UnprovedEntry,
     QuietUnprovedReplacement,
     ProvedReplacementWithFreeEntry,
+    ProvedReplacementOfARangeAtOne,
+    ThreeOfARange,
     KeyTwice,
     KeyOfAnotherBucket,
 }
@@ -72,6 +74,11 @@ fn places(bucket: &Bucket, at: usize) -> Vec<Place<'_>> {
     let seats = bucket.entries.iter().enumerate().map(line(at + SEATS, true));
     let waiting = bucket.replacements.iter().enumerate().map(line(at + LINE, false));
     seats.chain(waiting).collect()
+}
+
+fn same_range(one: &Entry, two: &Entry) -> bool {
+    let [one, two] = [one, two].map(|entry| range(&entry.endpoint.address));
+    one.is_some() && one == two
 }
 
 fn latest(bucket: &Bucket) -> Option<u64> {
@@ -164,8 +171,26 @@ pub fn damage(random: &mut Random, kind: Kind, table: &Table, slot: usize) -> Op
         }
         QuietUnprovedReplacement => store(place(random, &|place| !place.seated)?.0 + 93, &[0; 18]),
         ProvedReplacementWithFreeEntry => {
-            let (at, _) = place(random, &|place| !place.seated && seats < ENTRIES)?;
+            let free = |place: &Place| bucket.has_seat_for(&place.entry.endpoint.address);
+            let (at, _) = place(random, &|place| !place.seated && free(place))?;
             store(at + 93, &[&[1][..], &table.clock.to_be_bytes()].concat())
+        }
+        ProvedReplacementOfARangeAtOne => {
+            // beside free seats it waits for its range: one seat of that goes to another
+            let (_, entry) =
+                place(random, &|place| !place.seated && place.entry.proof.is_some() && seats < ENTRIES)?;
+            let (at, seat) = place(random, &|place| place.seated && same_range(place.entry, entry))?;
+            store(at + 67, &[seat.endpoint.address[2] ^ byte])
+        }
+        ThreeOfARange => {
+            // the range of a seat that has two goes to a seat of another
+            let (_, entry) = place(random, &|place| {
+                place.seated && bucket.of_range(&place.entry.endpoint.address) == OF_A_RANGE
+            })?;
+            let other = |place: &Place| {
+                place.seated && place.entry.endpoint.address.len() == 4 && !same_range(place.entry, entry)
+            };
+            store(place(random, &other)?.0 + 65, &entry.endpoint.address[..3])
         }
         KeyTwice => {
             let (at, entry) = place(random, &|_| true)?;

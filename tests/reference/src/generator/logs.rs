@@ -3,6 +3,7 @@
 use super::calls::Calls;
 use super::coverage::Coverage;
 use super::random::Random;
+use crate::bucket::Bucket;
 use crate::calls::Call;
 use crate::hex;
 use crate::log::{Replay, LONGEST_LINE};
@@ -113,6 +114,10 @@ impl Maker {
     fn emit(&mut self, line: &[u8]) {
         self.coverage.before(&self.replay, line);
         let answer = self.replay.line(line);
+        assert!(
+            self.replay.table.iter().flat_map(|table| &table.buckets).all(Bucket::keeps_ranges),
+            "{answer}"
+        );
         self.coverage.after(&self.replay, line, &answer);
         self.log.extend(line);
         self.log.push(b'\n');

@@ -36,15 +36,52 @@ impl Peers {
         let (own_hash, own) = drawn.swap_remove(chosen);
 
         let mut by_number: Vec<Vec<Peer>> = (0..256).map(|_| Vec::new()).collect();
+        let racks: Vec<Racks> = (0..256).map(|_| Racks::new(random)).collect();
         for (hash, key) in drawn {
             if let Some(number) = bucket_number(&distance(&own_hash, &hash)) {
-                by_number[number].push(Peer { key, endpoint: random_endpoint(random) });
+                let mut endpoint = random_endpoint(random);
+                racks[number].crowd(random, &mut endpoint);
+                by_number[number].push(Peer { key, endpoint });
             }
         }
         by_number.retain(|peers| !peers.is_empty());
         by_number.reverse();
         Peers { own, buckets: by_number }
     }
+}
+
+/// Three ranges of a bucket that many of its nodes are of, two of them with the same first two bytes.
+struct Racks {
+    ranges: [[u8; 3]; 3],
+    /// Of 100 nodes of the bucket.
+    crowded: usize,
+}
+
+impl Racks {
+    fn new(random: &mut Random) -> Racks {
+        let [a, b, c]: [u8; 3] = random.array();
+        let ranges = [[a, b, c], [a, b, c ^ 1 << random.below(8)], [a ^ 1 << random.below(8), b, c]];
+        Racks { ranges, crowded: *random.pick(&[0, 10, 30, 70]) }
+    }
+
+    /// Gives a node an address of one of the ranges; at times one of 16 bytes that begins like it, or that is
+    /// it, IPv4-mapped.
+    fn crowd(&self, random: &mut Random, endpoint: &mut Endpoint) {
+        if random.chance(self.crowded) {
+            let mut address = [&random.pick(&self.ranges)[..], &random.bytes(1)].concat();
+            match random.below(8) {
+                0 => address.extend(random.bytes(12)),
+                1 => address = mapped(&address),
+                _ => {}
+            }
+            endpoint.address = address;
+        }
+    }
+}
+
+/// An IPv4 address in its 16-byte form.
+pub fn mapped(address: &[u8]) -> Vec<u8> {
+    [&[0; 10][..], &[255, 255], address].concat()
 }
 
 /// An address of 4 bytes or, one in four, of 16, and two ports.
@@ -74,7 +111,7 @@ pub fn elsewhere(random: &mut Random, endpoint: &Endpoint) -> Endpoint {
             other.address[index] ^= 1 << random.below(8);
         }
         2 if other.address.len() == 4 => {
-            other.address = [&[0; 10][..], &[255, 255], &other.address].concat();
+            other.address = mapped(&other.address);
         }
         2 => other.address.truncate(4),
         _ => other.address = random.bytes(4),

@@ -1,6 +1,7 @@
 //! Sound tables, also those that no run reaches: "Calls must be right from every sound table" (T4).
 
 use super::calls::Calls;
+use super::peers::Peer;
 use super::random::Random;
 use crate::bucket::{Entry, PingState, ENTRIES, REPLACEMENTS};
 use crate::keccak::keccak256;
@@ -20,25 +21,36 @@ pub fn sound_table(calls: &mut Calls, buckets: u64) -> Table {
         let waiting = random.below(REPLACEMENTS + 1);
         let clock = table.clock;
         let bucket = &mut table.buckets[index];
-        for (place, peer) in peers.iter().take(taken + waiting).enumerate() {
-            let seated = place < taken;
-            // the line may hold proved nodes only where all seats are taken
-            let proved = seated || (taken == ENTRIES && random.chance(60));
-            let out = !proved || random.chance(40);
-            let entry = Entry {
-                key: peer.key,
-                id: keccak256(&peer.key),
-                endpoint: peer.endpoint.clone(),
-                last_seen: time(random, clock),
-                proof: proved.then(|| time(random, clock)),
-                ping: if out { PingState::Out(time(random, clock)) } else { PingState::Quiet },
-                ping_hash: random.array(),
-            };
-            let line = if seated { &mut bucket.entries } else { &mut bucket.replacements };
-            line.push_back(entry);
+        let mut rest = Vec::new();
+        for peer in peers {
+            if bucket.entries.len() < taken && !bucket.is_range_full(&peer.endpoint.address) {
+                bucket.entries.push_back(entry(random, clock, peer, true));
+            } else {
+                rest.push(peer);
+            }
+        }
+        for _ in 0..waiting.min(rest.len()) {
+            let peer = rest.remove(random.below(rest.len().min(8)));
+            // a proved node waits only where there is no seat for it
+            let proved = !bucket.has_seat_for(&peer.endpoint.address) && random.chance(60);
+            bucket.replacements.push_back(entry(random, clock, peer, proved));
         }
     }
     table
+}
+
+/// A node at a place; an unproved one has a ping out.
+fn entry(random: &mut Random, clock: u64, peer: &Peer, proved: bool) -> Entry {
+    let out = !proved || random.chance(40);
+    Entry {
+        key: peer.key,
+        id: keccak256(&peer.key),
+        endpoint: peer.endpoint.clone(),
+        last_seen: time(random, clock),
+        proof: proved.then(|| time(random, clock)),
+        ping: if out { PingState::Out(time(random, clock)) } else { PingState::Quiet },
+        ping_hash: random.array(),
+    }
 }
 
 /// A time up to the clock, often one at an edge.

@@ -89,7 +89,7 @@ impl Log {
     }
 
     pub fn rx(&mut self, now: u64, key: &[u8], datagram: &[u8]) -> String {
-        self.rx_from(now, &V4, PORT, key, datagram)
+        self.rx_from(now, &address_of(key), PORT, key, datagram)
     }
 
     pub fn sent_to(&mut self, now: u64, key: &[u8], address: &[u8], port: u16) -> String {
@@ -98,7 +98,7 @@ impl Log {
     }
 
     pub fn sent(&mut self, now: u64, key: &[u8]) -> String {
-        self.sent_to(now, key, &V4, PORT)
+        self.sent_to(now, key, &address_of(key), PORT)
     }
 
     pub fn pong(&mut self, now: u64, key: &[u8]) -> String {
@@ -111,8 +111,17 @@ impl Log {
 
     /// Pings a node and has it answer at the same millisecond.
     pub fn meet(&mut self, now: u64, key: &[u8]) -> String {
-        assert_eq!(self.sent(now, key), "0");
-        self.pong(now, key)
+        self.meet_at(now, key, &address_of(key))
+    }
+
+    /// The same at an address.
+    pub fn meet_at(&mut self, now: u64, key: &[u8], address: &[u8]) -> String {
+        assert_eq!(self.sent_to(now, key, address, PORT), "0");
+        self.pong_from(now, key, address)
+    }
+
+    pub fn pong_from(&mut self, now: u64, key: &[u8], address: &[u8]) -> String {
+        self.rx_from(now, address, PORT, key, &pong(&hash_of(key)))
     }
 
     pub fn printout(&self) -> String {
@@ -131,6 +140,11 @@ impl Log {
         let name = hex(&key[..8]);
         self.printout().lines().find(|line| line.contains(&name)).map(str::to_string)
     }
+}
+
+/// Where a test has a node: each in a range of its own.
+pub fn address_of(key: &[u8]) -> [u8; 4] {
+    [192, key[6], key[7], 7]
 }
 
 /// The ping hash that a test uses for a node.
