@@ -2,7 +2,7 @@
 use Prim.Native.Nat.{ℕ, zero, suc, _+_, _-_, _*_, _≤_, _<_}
 use mathlib.Core.Path.{_≡_, refl, sym, ap, _∙_}
 use mathlib.Core.Bool.{Bool, true, false, cond, not, _&&_, and-false}
-use mathlib.Core.List.{List, [], _∷_}
+use mathlib.Core.List.{_∷_}
 use native.Mathlib.Omega.{arith}
 use borrow.Author.Tests.{eq-eqb, ne-eqb, le-leb, lt-leb, lt-ltb, le-ltb, ltb-true, ltb-false}
 use lib.Dec.{eqb, leb, ltb}
@@ -17,7 +17,9 @@ use Rattle.entry.specs.Layout.{decodeEntry, decodeEndpoint, decodeStamp, proofO
 use Rattle.entry.proofs.Laws.{decode-entry, decode-endpoint}
 use Rattle.bucket_model.specs.Contents.{entriesAt}
 use Rattle.bucket_model.specs.Rules.{maxEntries, maxOfRange, isProved, sameRange, rangeCount, rangeFull, mayTake, isPromoted}
+use Rattle.bucket_model.specs.Sound.{rangesKept}
 use Rattle.bucket_model.proofs.ByteForm.{length-entriesAt}
+use Rattle.bucket_range.proofs.Later.{too-many, no-more}
 
 -- ---- one record
 
@@ -102,6 +104,25 @@ module _ (s : Bytes) (at n i : ℕ) (less : i < n) where
       → a ≡ all q (entriesAt s (at + (i + 1) * 143) (n - (i + 1)))
   goes-on q e passes = e ∙ all-left q ∙ ap (λ x. x && all q (entriesAt s (at + (i + 1) * 143) (n - (i + 1)))) passes
 
+  -- the same of ranges kept, by how many are behind the record
+  kept-left : rangesKept (entriesAt s (at + i * 143) (n - i))
+      ≡ rangesKept (decodeEntry (part s (at + i * 143) 143) ∷ entriesAt s (at + i * 143 + 143) (n - i - 1))
+  unfolding entriesAt
+  kept-left = let e : n - i ≡ suc (n - i - 1) = omega arith in ap (λ k. rangesKept (entriesAt s (at + i * 143) k)) e
+
+  module _ {k : ℕ} (is : k ≡ rangeCount (endpointAt s (at + i * 143)) (entriesAt s (at + i * 143 + 143) (n - i - 1))) {a : Bool}
+      (e : a ≡ rangesKept (entriesAt s (at + i * 143) (n - i))) where
+    pub stops-kept : maxOfRange ≤ k → false ≡ a
+    stops-kept h =
+        sym (e ∙ kept-left ∙ too-many (decodeEntry (part s (at + i * 143) 143)) (entriesAt s (at + i * 143 + 143) (n - i - 1)) (omega (arith, is)))
+
+    pub goes-on-kept : k < maxOfRange → a ≡ rangesKept (entriesAt s (at + (i + 1) * 143) (n - (i + 1)))
+    goes-on-kept h =
+        let f : n - i - 1 ≡ n - (i + 1) = omega arith in
+        e ∙ kept-left ∙ no-more (decodeEntry (part s (at + i * 143) 143)) (entriesAt s (at + i * 143 + 143) (n - i - 1)) (omega (arith, is))
+        ∙ ap (λ x. rangesKept (entriesAt s x (n - i - 1))) next
+        ∙ ap (λ x. rangesKept (entriesAt s (at + (i + 1) * 143) x)) f
+
 -- the start of a loop over n records, and its end
 pub from-start : {A : Type 0} (r : ℕ → ℕ → A) (at n : ℕ) → r at n ≡ r (at + 0 * 143) (n - 0)
 from-start r at n =
@@ -116,6 +137,10 @@ no-count x s at n i h = let e : n - i ≡ 0 = omega arith in rw e refl
 pub all-none : (q : Entry → Bool) (s : Bytes) (at n i : ℕ) → n ≤ i → all q (entriesAt s at (n - i)) ≡ true
 unfolding entriesAt
 all-none q s at n i h = let e : n - i ≡ 0 = omega arith in rw e refl
+
+pub kept-none : (s : Bytes) (at n i : ℕ) → n ≤ i → rangesKept (entriesAt s at (n - i)) ≡ true
+unfolding entriesAt
+kept-none s at n i h = let e : n - i ≡ 0 = omega arith in rw e refl
 
 -- ---- who may take an entry
 

@@ -115,14 +115,15 @@ fn range_count_at(bytes: &[u8], a: usize, at: usize, n: usize) -> usize
     k
 }
 
-// Whether no range has more of `n` records from index `at` than it may have.
+// Whether no range has more of `n` records from index `at` than it may have: none has as many behind it.
 pub fn ranges_kept(bytes: &[u8], at: usize, n: usize) -> bool
     requires { ⌜ (at + n * 143 ≤ length (now bytes)) × (n ≤ 16) ⌝ }
     ensures { λ r. ⌜ r ≡ rangesKept (entriesAt (now (bytes .entry)) at n) ⌝ }
 {
     let mut i = 0;
     while i < n {
-        if MOST < range_count_at(bytes, at + i * Entry::SIZE, at, n) {
+        let a = at + i * Entry::SIZE;
+        if MOST <= range_count_at(bytes, a, a + Entry::SIZE, n - i - 1) {
             return false;
         }
         i += 1;

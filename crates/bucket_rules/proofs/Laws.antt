@@ -19,8 +19,8 @@ use Rattle.bucket.proofs.Laws.{length-listed, holds-listed}
 use Rattle.bucket_rules.specs.Steps.{putAt, tailAt, promoteAt, joinLine}
 
 -- who may take an entry finds room
-pub room-for-one : (b : Bucket) (a : Endpoint) → length (b .entries .items) ≡ 16 → b .entries .len ≤ 16 → mayTake (listed (b .entries)) a ≡ true → b .entries .len < 16
-room-for-one b a n h may = omega (arith, length-listed (b .entries) n h, take-room (listed (b .entries)) a may)
+pub room-for-one : (l : EntryList) (a : Endpoint) → length (l .items) ≡ 16 → l .len ≤ 16 → mayTake (listed l) a ≡ true → l .len < 16
+room-for-one l a n h may = omega (arith, length-listed l n h, take-room (listed l) a may)
 
 module _ (b : Bucket) (n : length (b .entries .items) ≡ 16) (k : length (b .replacements .items) ≡ 16) (h : InBounds b) where
   entries-held : Holds (b .entries) (listed (b .entries))

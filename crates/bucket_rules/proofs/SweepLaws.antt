@@ -1,12 +1,12 @@
 -- Laws of the sweep. Assumes nothing.
 use mathlib.Core.Path.{_≡_, refl, sym, ap, _∙_}
-use mathlib.Core.Bool.{Bool, true, false, cond, _&&_}
+use mathlib.Core.Bool.{Bool, true, false, cond}
 use mathlib.Core.List.{List, [], _∷_, _++_, append-assoc, append-nil}
-use Prim.Native.Nat.{ℕ, zero, suc, _+_, _-_, _≤_, _<_}
+use Prim.Native.Nat.{ℕ, _+_, _≤_, _<_}
 use native.Mathlib.Nat.{add-zero}
 use native.Mathlib.Numerals.{add-one}
 use native.Mathlib.Omega.{arith}
-use lib.ListN.{length, getD, take, set, length-append, length-set}
+use lib.ListN.{length, getD, take, set, length-set}
 use lib.Seq.{take-suc, take-suc-set, take-set-le, length-take-le}
 use Rattle.lists.specs.Lists.{select}
 use Rattle.lists.proofs.Laws.{byTest, and-right, select-append}
@@ -17,7 +17,7 @@ use Rattle.bucket_model.specs.Rules.{isProved, mayTake, isPromoted, staysEntry,
 use Rattle.bucket.specs.declared.EntryList.{EntryList}
 use Rattle.bucket.specs.declared.Bucket.{Bucket}
 use Rattle.bucket.specs.Steps.{listed, Holds, contents, Shows}
-use Rattle.bucket.proofs.Laws.{holds-listed, shown}
+use Rattle.bucket.proofs.Laws.{holds-listed, shown, push-holds}
 use Rattle.bucket_rules.specs.Steps.{stays, promoteOne, promoteAll}
 use Rattle.bucket_rules.proofs.Laws.{room-for-one}
 
@@ -71,28 +71,12 @@ kept-done f l kept n h inv =
 
 -- ---- replacements take free entries
 
-module _ (b : Bucket) (e : Entry) (n : length (b .entries .items) ≡ 16) (k : length (b .replacements .items) ≡ 16) (h : b .entries .len ≤ 16) (g : b .replacements .len ≤ 16)
-    {proved may moves : Bool} (ep : proved ≡ isProved (e .proof)) (ef : may ≡ mayTake (listed (b .entries)) (e .endpoint)) (em : moves ≡ (proved && may)) where
-  test : moves ≡ isPromoted (listed (b .entries)) e
-  test = cc
-
-  pub moves-free : moves ≡ true → b .entries .len < 16
-  moves-free t = room-for-one b (e .endpoint) n h (sym ef ∙ and-right proved may (sym em ∙ t))
-
-  pub one-moves : (r : EntryList) → moves ≡ true → Holds r (listed (b .entries) ++ (e ∷ []))
-      → Shows (record { entries = r; replacements = b .replacements }) (promoteOne (contents b) e)
-  one-moves r t hr = rw (sym test ∙ t) (record { entries = hr; replacements = holds-listed (b .replacements) k g })
-
-  pub one-stays : (r : EntryList) → moves ≡ false → Holds r (listed (b .replacements) ++ (e ∷ []))
-      → Shows (record { entries = b .entries; replacements = r }) (promoteOne (contents b) e)
-  one-stays r t hr = rw (sym test ∙ t) (record { entries = holds-listed (b .entries) n h; replacements = hr })
-
 promoteAll-next : (m : Contents) (l : List Entry) (e : Entry) → promoteAll m (l ++ (e ∷ [])) ≡ promoteOne (promoteAll m l) e
 unfolding promoteAll
 promoteAll-next m [] e = refl
 promoteAll-next m (x ∷ l) e = promoteAll-next (promoteOne m x) l e
 
-pub promote-turn : (m : Contents) (es : List Entry) (i : ℕ) (b r : Bucket) → i < length es
+promote-turn : (m : Contents) (es : List Entry) (i : ℕ) (b r : Bucket) → i < length es
     → Shows b (promoteAll m (take i es)) → Shows r (promoteOne (contents b) (getD es i noEntry)) → Shows r (promoteAll m (take (i + 1) es))
 promote-turn m es i b r h hb hr =
     let e : Entry = getD es i noEntry in
@@ -101,17 +85,68 @@ promote-turn m es i b r h hb hr =
     ap (λ c. promoteOne c e) (shown b _ hb) ∙ sym (promoteAll-next m (take i es) e) ∙ ap (λ l. promoteAll m l) (sym t) in
     rw is at hr
 
-one-line : (m : Contents) (e : Entry) → length (promoteOne m e .replacements) ≤ length (m .replacements) + 1
-one-line m e =
-    byTest (isPromoted (m .entries) e)
-    (λ t. rw t (omega arith))
-    (λ t. rw t (omega (arith, length-append (m .replacements) (e ∷ []))))
+-- the first i of the line are dealt with
+pub record Turned (m : Contents) (es : List Entry) (i : ℕ) (entries replacements : EntryList) : Type 0 where
+  pub wide : length (entries .items) ≡ 16
+  pub wide′ : length (replacements .items) ≡ 16
+  pub most : replacements .len ≤ i
+  pub shows : Shows (record { entries = entries; replacements = replacements }) (promoteAll m (take i es))
 
--- the line grows by at most one for each node
-pub promoteAll-line : (m : Contents) (l : List Entry) → length (promoteAll m l .replacements) ≤ length (m .replacements) + length l
+pub turned-start : (taken line : EntryList) → length (taken .items) ≡ 16 → length (line .items) ≡ 16 → taken .len ≤ 16
+    → Turned (record { entries = listed taken; replacements = [] }) (line .items) 0 taken (record { len = 0; items = line .items })
 unfolding promoteAll
-promoteAll-line m [] = omega arith
-promoteAll-line m (e ∷ l) = omega (arith, promoteAll-line (promoteOne m e) l, one-line m e)
+turned-start taken line n k h = record {
+  wide = n;
+  wide′ = k;
+  most = omega arith;
+  shows = record { entries = holds-listed taken n h; replacements = record { count = refl; fits = omega arith; held = refl } };
+}
+
+-- the next one takes an entry at the tail, or stays in line
+module _ (m : Contents) (es : List Entry) (i : ℕ) (entries replacements : EntryList) (less : i < length es) (few : i < 16)
+    (inv : Turned m es i entries replacements) {moves : Bool} (is : moves ≡ isPromoted (listed entries) (getD es i noEntry)) where
+  abbrev pub e : Entry
+  e = getD es i noEntry
+
+  abbrev b : Bucket
+  b = record { entries = entries; replacements = replacements }
+
+  within : entries .len ≤ 16
+  within = omega (arith, inv .shows .entries .count, inv .shows .entries .fits)
+
+  pub turn-room : moves ≡ true → entries .len < 16
+  turn-room t =
+      room-for-one entries (e .endpoint) (inv .wide) within (and-right (isProved (e .proof)) (mayTake (listed entries) (e .endpoint)) (sym is ∙ t))
+
+  pub turn-moves : moves ≡ true
+      → Turned m es (i + 1) (record { len = entries .len + 1; items = set (entries .items) (entries .len) e }) replacements
+  turn-moves t =
+      let r : EntryList = record { len = entries .len + 1; items = set (entries .items) (entries .len) e } in
+      let hr : Holds r (listed entries ++ (e ∷ [])) = push-holds entries e (inv .wide) (turn-room t) in
+      let hs : Holds replacements (listed replacements) = holds-listed replacements (inv .wide′) (omega (arith, inv .most)) in
+      record {
+        wide = length-set (entries .items) (entries .len) e ∙ inv .wide;
+        wide′ = inv .wide′;
+        most = omega (arith, inv .most);
+        shows =
+            promote-turn m es i b (record { entries = r; replacements = replacements }) less (inv .shows)
+            (rw (sym is ∙ t) (record { entries = hr; replacements = hs }));
+      }
+
+  pub turn-stays : moves ≡ false
+      → Turned m es (i + 1) entries (record { len = replacements .len + 1; items = set (replacements .items) (replacements .len) e })
+  turn-stays t =
+      let r : EntryList = record { len = replacements .len + 1; items = set (replacements .items) (replacements .len) e } in
+      let hr : Holds r (listed replacements ++ (e ∷ [])) = push-holds replacements e (inv .wide′) (omega (arith, inv .most)) in
+      let hs : Holds entries (listed entries) = holds-listed entries (inv .wide) within in
+      record {
+        wide = inv .wide;
+        wide′ = length-set (replacements .items) (replacements .len) e ∙ inv .wide′;
+        most = omega (arith, inv .most);
+        shows =
+            promote-turn m es i b (record { entries = entries; replacements = r }) less (inv .shows)
+            (rw (sym is ∙ t) (record { entries = hs; replacements = hr }));
+      }
 
 -- the replacements in line order: those that are promoted, and those that remain
 pub promoteAll-is : (m : Contents) (l : List Entry)
@@ -123,16 +158,13 @@ promoteAll-is m (e ∷ l) =
     (λ t. rw t (promoteAll-is (record { entries = m .entries ++ (e ∷ []); replacements = m .replacements }) l ∙ rw append-assoc refl))
     (λ t. rw t (promoteAll-is (record { entries = m .entries; replacements = m .replacements ++ (e ∷ []) }) l ∙ rw append-assoc refl))
 
-pub swept : (now : ℕ) (b r : Bucket) (entries line none : EntryList) → Holds entries (select (staysEntry now) (listed (b .entries)))
-    → Holds line (select (staysReplacement now) (listed (b .replacements))) → Holds none []
-    → Shows r (promoteAll (contents (record { entries = entries; replacements = none })) (listed line)) → Shows r (onSweep now (contents b))
+pub swept : (now : ℕ) (b r : Bucket) (entries line : EntryList) → Holds entries (select (staysEntry now) (listed (b .entries)))
+    → Holds line (select (staysReplacement now) (listed (b .replacements)))
+    → Shows r (promoteAll (record { entries = listed entries; replacements = [] }) (listed line)) → Shows r (onSweep now (contents b))
 unfolding onSweep
-swept now b r entries line none he hl hn hr =
-    let start : contents (record { entries = entries; replacements = none }) ≡ record { entries = select (staysEntry now) (listed (b .entries)); replacements = [] } =
-    ap (λ xs. record { entries = xs; replacements = listed none }) (he .held)
-    ∙ ap (λ xs. record { entries = select (staysEntry now) (listed (b .entries)); replacements = xs }) (hn .held) in
-    let is : promoteAll (contents (record { entries = entries; replacements = none })) (listed line) ≡ onSweep now (contents b) =
-    ap (λ c. promoteAll c (listed line)) start
+swept now b r entries line he hl hr =
+    let is : promoteAll (record { entries = listed entries; replacements = [] }) (listed line) ≡ onSweep now (contents b) =
+    ap (λ xs. promoteAll (record { entries = xs; replacements = [] }) (listed line)) (he .held)
     ∙ ap (λ l. promoteAll (record { entries = select (staysEntry now) (listed (b .entries)); replacements = [] }) l) (hl .held)
     ∙ promoteAll-is (record { entries = select (staysEntry now) (listed (b .entries)); replacements = [] }) (select (staysReplacement now) (listed (b .replacements))) in
     rw is at hr

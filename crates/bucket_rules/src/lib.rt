@@ -1,11 +1,12 @@
 // The rules of one bucket by value: a node looked up by its key with the tests of 13 to 18, ping sent, pong, other packets, and the sweep.
 ghost use mathlib.Core.Path.{_≡_};
 ghost use mathlib.Core.Bool.{cond, not, _&&_, _||_};
+ghost use mathlib.Core.List.{[]};
 ghost use Prim.Native.Nat.{_≤_, _<_};
 ghost use Rattle.lists.specs.Lists.{select, any, empty};
-ghost use Rattle.bucket_model.specs.Rules.{onSweep, rangeFull, isOut, isOverdue, isAt, isVerified, isAwaited, onPingSent, onPong, onHeard};
+ghost use Rattle.bucket_model.specs.Rules.{onSweep, rangeFull, isPromoted, isOut, isOverdue, isAt, isVerified, isAwaited, onPingSent, onPong, onHeard};
 ghost use Rattle.bucket.specs.Steps.{listed, Holds, contents, Shows, InBounds};
-ghost use Rattle.bucket_rules.specs.Steps.{stays, promoteOne, promoteAll, Ready, found, inEntries, LooksUp, Within, EntryAt, putAt, tailAt, promoteAt, joinLine};
+ghost use Rattle.bucket_rules.specs.Steps.{stays, promoteAll, Ready, found, inEntries, LooksUp, Within, EntryAt, putAt, tailAt, promoteAt, joinLine};
 ghost use lib.Dec.{leb};
 ghost use lib.ListN.{getD, length};
 ghost use Rattle.entry.specs.Layout.{noEntry};
@@ -53,44 +54,47 @@ fn count(b: bool) -> usize
     if b { 1 } else { 0 }
 }
 
-// A replacement takes an entry at the tail if it is proved and may, or stays in line.
-fn promote_one(b: Bucket, e: Entry) -> Bucket
-    requires { ⌜ (b .entries .len ≤ 16) × (b .replacements .len < 16) ⌝ }
-    ensures { λ r. ⌜ Shows r (promoteOne (contents b) e) ⌝ }
+// Whether a replacement is proved and may take an entry beside these.
+fn is_promoted(l: EntryList, e: Entry) -> bool
+    requires { ⌜ l .len ≤ 16 ⌝ }
+    ensures { λ r. ⌜ r ≡ isPromoted (listed l) e ⌝ }
 {
-    let entries = b.entries;
-    let replacements = b.replacements;
     let proof = e.proof;
     let at = e.endpoint;
-    let proved = bucket_entry::is_proved(proof);
-    let moves = bucket_entry::both(proved, bucket_range::may_take(entries, at));
-    if moves {
-        let moved = entries.push(e);
-        return Bucket {
-            entries: moved,
-            replacements,
-        };
+    bucket_entry::both(
+        bucket_entry::is_proved(proof),
+        bucket_range::may_take(l, at),
+    )
+}
+
+// Of the line, each in its turn, those that are promoted take an entry at the tail, and the others stay. The lists are changed in place: a
+// list by value for each turn is a copy.
+fn promote_all(taken: EntryList, line: EntryList) -> Bucket
+    requires { ⌜ (taken .len ≤ 16) × (line .len ≤ 16) ⌝ }
+    ensures { λ r. ⌜ Shows r (promoteAll (record { entries = listed taken; replacements = [] }) (listed line)) ⌝ }
+{
+    let len = line.len;
+    let mut entries = taken;
+    let mut replacements = line;
+    replacements.len = 0;
+    let mut i = 0;
+    while i < len {
+        let e = line.items[i];
+        if is_promoted(entries, e) {
+            let tail = entries.len;
+            entries.items[tail] = e;
+            entries.len = tail + 1;
+        } else {
+            let end = replacements.len;
+            replacements.items[end] = e;
+            replacements.len = end + 1;
+        }
+        i += 1;
     }
-    let replacements = replacements.push(e);
     Bucket {
         entries,
         replacements,
     }
-}
-
-fn promote_all(b: Bucket, line: EntryList) -> Bucket
-    requires { ⌜ (b .entries .len ≤ 16) × ((b .replacements .len ≡ 0) × (line .len ≤ 16)) ⌝ }
-    ensures { λ r. ⌜ Shows r (promoteAll (contents b) (listed line)) ⌝ }
-{
-    let len = line.len;
-    let mut after = b;
-    let mut i = 0;
-    while i < len {
-        let e = line.items[i];
-        after = promote_one(after, e);
-        i += 1;
-    }
-    after
 }
 
 // Sweep: nodes that did not answer in time go, then replacements with an expired proof; then proved replacements take
@@ -103,9 +107,7 @@ pub fn sweep(b: Bucket, clock: MonotonicMillis) -> Bucket
     let replacements = b.replacements;
     let entries = kept(entries, false, clock);
     let line = kept(replacements, true, clock);
-    let mut start = Bucket::fresh();
-    start.entries = entries;
-    promote_all(start, line)
+    promote_all(entries, line)
 }
 
 // Where a node is held, with its entry there.

@@ -16,7 +16,8 @@ replacements-size c = search (needs, length-mapped)
 
 push-requires : tie.Need-push-requires
 push-requires c κs = let start = c .before .before .before .before .before in
-    room-for-one (start .args .b) (start .args .e .endpoint) (entries-size start) (start .pre .0 .entries) (sym (c .before .may-take .ensures) ∙ c .if1 .taken)
+    room-for-one (start .args .b .entries) (start .args .e .endpoint) (entries-size start) (start .pre .0 .entries)
+    (sym (c .before .may-take .ensures) ∙ c .if1 .taken)
 
 returns : tie.Need-returns
 returns c = let start = c .before .before .before .before .before .before .before in
