@@ -6,7 +6,7 @@
 PREFIX ?= /usr/local
 DESTDIR ?=
 
-PROGRAMS = replay bootnodes keccak256
+PROGRAMS = replay why bootnodes keccak256
 VERSION = $(shell cat VERSION)
 ROOT = $(DESTDIR)$(PREFIX)
 LIBEXEC = $(ROOT)/libexec/coghammer

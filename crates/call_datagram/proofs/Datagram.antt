@@ -117,7 +117,7 @@ module _ (s : Bytes) (now : ℕ) (unix : UnixSeconds) (address key g : Bytes) (u
     passed-in-time = ltb-false now (clockOf s) (facts .1 .0)
 
     module _ {p : Packet} (is : readAt g unix ≡ parsed.Packet p) where
-      packet-read : read ≡ packetReading g p
+      pub packet-read : read ≡ packetReading g p
       packet-read = reads ∙ ap (parsedReading g) is
 
       passed-number : answerOn reading s call ≡ first (rest (packetReading g p))

@@ -21,8 +21,9 @@ use Rattle.table.specs.Init.{initAnswer, initTable, freshTable}
 use Rattle.table.proofs.Fresh.{room}
 use Rattle.log_answer.specs.AnswerRows.{answerRoom, numberRow}
 use Rattle.log_state.specs.declared.Replay.{Replay}
-use Rattle.log_own.specs.OwnLine.{isCount, ownNumber, ownAnswer, ownAfter}
-use Rattle.log_state.specs.State.{sizeOf, stateOf, Answered}
+use Rattle.log_own.specs.declared.Made.{Made}
+use Rattle.log_own.specs.OwnLine.{isCount, ownNumber, ownAnswer, ownAfter, Taken}
+use Rattle.log_state.specs.State.{State, sizeOf, stateOf, Answered}
 use Rattle.log_state.proofs.Memory.{size-some, size-most, size-fits, front-stored, front-is, front-same, front-part}
 
 pub length-fresh : (key : Bytes) (count : ℕ) → 1 ≤ count → count ≤ 256 → length (freshTable key count) ≡ offsetOf count
@@ -82,26 +83,22 @@ module _ (buckets : ℕ) (key : Bytes) where
 
 -- ---- the line
 
-module _ (replay : Replay) (memory out : Bytes) (big : 46304 ≤ length memory) (few : replay .count ≤ 16) (buckets : ℕ) (key : Bytes) (k : ℕ) {out′ : Bytes} {n : ℕ} (len : n ≡ length (numberRow k)) (written : out′ ≡ store out 0 (numberRow k)) (room : n ≤ answerRoom) where
+module _ (replay : Replay) (memory : Bytes) (big : 46304 ≤ length memory) (few : replay .count ≤ 16) (buckets : ℕ) (key : Bytes) (k : ℕ) where
   -- after a well-formed one
-  pub own-again : replay .owned ≡ true → k ≡ 21
-      → Answered (ownAfter (stateOf replay memory) buckets key) (numberRow (ownAnswer (stateOf replay memory) buckets key)) memory out (record { replay = replay; len = n }) memory out′
+  pub own-again : replay .owned ≡ true → k ≡ 21 → Taken (stateOf replay memory) buckets key memory (record { replay = replay; number = k }) memory
   unfolding ownAfter ownAnswer
   own-again o e =
       record {
         state = rw o refl;
         bytes = rw o (sym (front-same memory (sizeOf (replay .count)) (size-fits replay memory big few)));
-        len = rw o (len ∙ ap (λ x. length (numberRow x)) e);
-        written = rw o (written ∙ ap (λ x. store out 0 (numberRow x)) e);
+        number = rw o e;
         count = few;
-        room = room;
       }
 
   -- the first one is accepted
   pub own-accepted : {m′ : Bytes} → replay .owned ≡ false → k ≡ ownNumber buckets key → k ≡ 0
       → m′ ≡ cond (eqb k 0) (store memory 0 (freshTable key buckets)) memory
-      → Answered (ownAfter (stateOf replay memory) buckets key) (numberRow (ownAnswer (stateOf replay memory) buckets key)) memory out
-      (record { replay = record { owned = true; count = buckets }; len = n }) m′ out′
+      → Taken (stateOf replay memory) buckets key memory (record { replay = record { owned = true; count = buckets }; number = k }) m′
   unfolding ownAfter ownAnswer
   own-accepted {m′} o e z em =
       let zero : ownNumber buckets key ≡ 0 = sym e ∙ z in
@@ -114,17 +111,14 @@ module _ (replay : Replay) (memory out : Bytes) (big : 46304 ≤ length memory) 
       record {
         state = rw (o, zero) (ap (λ t. record { owned = true; table = t }) there);
         bytes = rw (o, zero) back;
-        len = rw o (len ∙ ap (λ x. length (numberRow x)) e);
-        written = rw o (written ∙ ap (λ x. store out 0 (numberRow x)) e);
+        number = rw o e;
         count = counts .1;
-        room = room;
       }
 
   -- or refused
   pub own-refused : {m′ : Bytes} → replay .owned ≡ false → k ≡ ownNumber buckets key → (k ≡ 0 → ⊥)
       → m′ ≡ cond (eqb k 0) (store memory 0 (freshTable key buckets)) memory
-      → Answered (ownAfter (stateOf replay memory) buckets key) (numberRow (ownAnswer (stateOf replay memory) buckets key)) memory out
-      (record { replay = record { owned = true; count = replay .count }; len = n }) m′ out′
+      → Taken (stateOf replay memory) buckets key memory (record { replay = record { owned = true; count = replay .count }; number = k }) m′
   unfolding ownAfter ownAnswer
   own-refused {m′} o e z em =
       let no : eqb k 0 ≡ false = ne-eqb k 0 z in
@@ -133,8 +127,20 @@ module _ (replay : Replay) (memory out : Bytes) (big : 46304 ≤ length memory) 
       record {
         state = rw (o, no′) (ap (λ m. record { owned = true; table = take (sizeOf (replay .count)) m }) back);
         bytes = rw (o, no′) (back ∙ sym (front-same memory (sizeOf (replay .count)) (size-fits replay memory big few)));
-        len = rw o (len ∙ ap (λ x. length (numberRow x)) e);
-        written = rw o (written ∙ ap (λ x. store out 0 (numberRow x)) e);
+        number = rw o e;
         count = few;
-        room = room;
       }
+
+-- the number of an `own` that was taken is written
+pub own-written : {st : State} {buckets : ℕ} {key memory m′ out out′ : Bytes} {r : Made} {n : ℕ} → Taken st buckets key memory r m′
+    → (n ≡ length (numberRow (r .number))) × ((out′ ≡ store out 0 (numberRow (r .number))) × (n ≤ answerRoom))
+    → Answered (ownAfter st buckets key) (numberRow (ownAnswer st buckets key)) memory out (record { replay = r .replay; len = n }) m′ out′
+own-written {out = out} t w =
+    record {
+      state = t .state;
+      bytes = t .bytes;
+      len = w .0 ∙ ap (λ x. length (numberRow x)) (t .number);
+      written = w .1 .0 ∙ ap (λ x. store out 0 (numberRow x)) (t .number);
+      count = t .count;
+      room = w .1 .1;
+    }

@@ -1,13 +1,15 @@
 -- The first line of a log, `own` (document 01, "Log and printout"): its answer, and the table that it makes.
-use Prim.Native.Nat.{ℕ}
+use Prim.Native.Nat.{ℕ, _≤_}
+use mathlib.Core.Path.{_≡_}
 use mathlib.Core.Bool.{Bool, true, cond, not, _&&_}
 use mathlib.Core.List.{[], _∷_}
 use lib.Dec.{eqb, leb}
 use lib.ListN.{length}
-use Rattle.octets.specs.Octets.{Bytes}
+use Rattle.octets.specs.Octets.{Bytes, store}
 use Rattle.lists.specs.Lists.{first}
 use Rattle.table.specs.Init.{freshTable}
-use Rattle.log_state.specs.State.{State}
+use Rattle.log_state.specs.State.{State, stateOf}
+use Rattle.log_own.specs.declared.Made.{Made}
 
 -- ---- `own`
 
@@ -26,3 +28,10 @@ ownAnswer st buckets key = cond (st .owned) 21 (ownNumber buckets key)
 unfoldable pub ownAfter : State → ℕ → Bytes → State
 ownAfter st buckets key =
     record { owned = true; table = cond (eqb (ownAnswer st buckets key) 0) (freshTable key buckets) (st .table) }
+
+-- an `own` in the state st is taken: the memory becomes m′
+pub record Taken (st : State) (buckets : ℕ) (key memory : Bytes) (r : Made) (m′ : Bytes) : Type 0 where
+  pub state : stateOf (r .replay) m′ ≡ ownAfter st buckets key
+  pub bytes : m′ ≡ store memory 0 (ownAfter st buckets key .table)
+  pub number : r .number ≡ ownAnswer st buckets key
+  pub count : r .replay .count ≤ 16

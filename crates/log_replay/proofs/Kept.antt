@@ -118,7 +118,7 @@ own-good st buckets key g =
     kept (some f) = some f
 
 module _ (line : Bytes) where
-  slice-said : length line ≤ 3000 → (f : Span) → Slice (said line f)
+  pub slice-said : length line ≤ 3000 → (f : Span) → Slice (said line f)
   unfolding said
   slice-said h f = record { bytes = bytes-unhex (text line f); size = omega (arith, said-size line f h) }
 

@@ -49,7 +49,7 @@ impl Entry {
     }
 
     /// Its "ping went out more than 500 ms ago".
-    fn is_overdue(&self, now: u64) -> bool {
+    pub fn is_overdue(&self, now: u64) -> bool {
         matches!(self.ping, PingState::Out(since) if now - since > PING_TIMEOUT)
     }
 

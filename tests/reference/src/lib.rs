@@ -15,13 +15,15 @@
 //! | [`layout`] | the table's bytes, when they are sound, and the calls on them |
 //! | [`burst`] | a burst of datagrams, each a call of its own |
 //! | [`log`] | log lines, answers, printout: the replay |
+//! | [`why`] | why a node is or isn't in the table at a log's end |
 //! | [`enode`] | boot lists: enode lines, read and written |
 //! | [`calls`] | sequences of calls as values, to compare another implementation call by call |
 //! | [`generator`] | seeded random calls, tables and logs |
 //!
 //! Programs: `replay` (a log in, answers and printout out), `generate` (a seeded log), `call_cases`
 //! (seeded cases for the program of that name, with what it must print), `bootnodes` (a boot list in, its
-//! nodes out) and `example_log` (the example of the README).
+//! nodes out), `why` (the reason for a key), `why_keys` (for every key of a log) and `example_log` (the example of
+//! the README).
 
 use std::fs::File;
 use std::io::{self, BufRead, BufReader};
@@ -38,6 +40,7 @@ pub mod log;
 pub mod packet;
 pub mod rlp;
 pub mod table;
+pub mod why;
 
 /// An answer number of document 01.
 pub type Number = u8;
@@ -55,7 +58,12 @@ pub fn hex(bytes: &[u8]) -> String {
 
 /// A program over the file named by its first argument, or over standard input if there is none (L9).
 pub fn program(name: &str, run: fn(&mut dyn BufRead) -> io::Result<()>) -> ExitCode {
-    let done = match std::env::args_os().nth(1) {
+    program_at(1, name, run)
+}
+
+/// The same for a later argument.
+pub fn program_at(at: usize, name: &str, run: impl FnOnce(&mut dyn BufRead) -> io::Result<()>) -> ExitCode {
+    let done = match std::env::args_os().nth(at).filter(|path| path != "-") {
         None => run(&mut io::stdin().lock()),
         Some(path) => match File::open(&path) {
             Ok(file) => run(&mut BufReader::new(file)),

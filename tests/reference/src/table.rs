@@ -96,6 +96,12 @@ impl Table {
         self.buckets[self.index(&keccak256(key))?].held(key)
     }
 
+    /// Whether the node with this key is seated.
+    pub fn is_seated(&self, key: &[u8]) -> bool {
+        let index = self.index(&keccak256(key));
+        index.is_some_and(|index| self.buckets[index].entries.iter().any(|entry| entry.key == key))
+    }
+
     // -------------------------------------------------------------------------------- the four calls
 
     /// A datagram from `address` and `port`, signed by `signer` ("an empty key if the signature

@@ -2,6 +2,8 @@
 
 use std::process::Command;
 
+use reference::why::{key, why, Reason};
+
 fn stored(name: &str) -> Vec<u8> {
     std::fs::read(format!("{}/../../examples/{name}", env!("CARGO_MANIFEST_DIR"))).unwrap()
 }
@@ -22,4 +24,22 @@ fn two_ports() {
         assert_eq!(cells[2], format!("`{}`", answer.replace('\t', " ")));
     }
     assert_eq!(rows.len(), 21);
+
+    // so is what is told of each node, whose key begins with its letter twice
+    let key = |digits: &str| {
+        let line = text(&log)
+            .lines()
+            .find(|line| line.split('\t').nth(2).is_some_and(|key| key.starts_with(digits)));
+        key(line.unwrap().split('\t').nth(2).unwrap().as_bytes()).unwrap()
+    };
+    for (name, digits) in [("A", "aa"), ("B", "bb"), ("C", "cc"), ("D", "dd"), ("the host's own", "01")] {
+        let told = why(&log, &key(digits)).to_string().replace('\t', " ");
+        assert!(explained.contains(&format!("| {name} | `{told}` |")), "{name} {told}");
+    }
+    let first_20: Vec<&str> = text(&log).lines().take(20).collect();
+    assert_eq!(why(first_20.join("\n").as_bytes(), &key("cc")), Reason::Ping { sweep: 17, ping: 7 });
+}
+
+fn text(log: &[u8]) -> &str {
+    std::str::from_utf8(log).unwrap()
 }

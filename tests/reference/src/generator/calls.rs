@@ -157,6 +157,11 @@ impl Calls {
         call
     }
 
+    /// A packet of a node that isn't held.
+    pub fn from_a_stranger(&mut self) -> Call {
+        self.act(Action::PacketUnknown, None)
+    }
+
     fn step_phase(&mut self) {
         if self.phase_left == 0 {
             self.phase = PHASES[self.random.weighted(&[30, 20, 15, 20, 15])];

@@ -59,7 +59,8 @@ pub fn log(seed: u64, count: usize, options: &Options) -> (Vec<u8>, Coverage) {
     // lines before the `own`
     if damage > 0 && calls.random.chance(40) {
         for _ in 0..calls.random.between(1, 6) {
-            let call = line(&calls.next(None));
+            let heard = calls.random.chance(40);
+            let call = line(&if heard { calls.from_a_stranger() } else { calls.next(None) });
             let text = match calls.random.below(4) {
                 0 => call,
                 1 => damaged_line(&mut calls.random, &call),

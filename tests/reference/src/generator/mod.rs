@@ -11,6 +11,7 @@
 //! | [`tables`] | sound tables, also those that no run reaches |
 //! | [`damage`] | bytes that make a table unsound, one kind at a time |
 //! | [`coverage`] | counts of the answers and of the cases at the edges |
+//! | [`reasons`] | the cases that the reason for a key shows (C-17) |
 
 pub mod calls;
 pub mod coverage;
@@ -20,4 +21,5 @@ pub mod enodes;
 pub mod logs;
 pub mod peers;
 pub mod random;
+pub mod reasons;
 pub mod tables;

@@ -1,0 +1,4 @@
+pub mod Past
+pub mod Why
+pub mod Trail
+pub mod Claims

@@ -1,0 +1,4 @@
+pub mod Row
+pub mod Steps
+pub mod Tracking
+pub mod Claims
