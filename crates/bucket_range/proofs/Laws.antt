@@ -18,6 +18,7 @@ use Rattle.node.specs.declared.Endpoint.{Endpoint}
 use Rattle.entry.specs.declared.Entry.{Entry}
 use Rattle.entry.specs.Layout.{noEntry}
 use Rattle.bucket_model.specs.Rules.{maxEntries, sameRange, rangeCount, rangeFull, mayTake}
+use Rattle.bucket_model.proofs.Ranges.{take-room}
 use Rattle.bucket.specs.declared.EntryList.{EntryList}
 use Rattle.bucket.specs.Steps.{listed}
 use Rattle.bucket.proofs.Laws.{length-listed}
@@ -88,3 +89,8 @@ module _ (l : EntryList) (n : length (l .items) ≡ 16) (h : l .len ≤ 16) (a :
   pub may-full : ltb (l .len) 16 ≡ false → false ≡ mayTake (listed l) a
   unfolding mayTake
   may-full g = rw (length-listed l n h, g) refl
+
+-- ---- who may take an entry finds room
+
+pub room-for-one : (l : EntryList) (a : Endpoint) → length (l .items) ≡ 16 → l .len ≤ 16 → mayTake (listed l) a ≡ true → l .len < 16
+room-for-one l a n h may = omega (arith, length-listed l n h, take-room (listed l) a may)

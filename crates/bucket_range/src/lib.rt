@@ -36,7 +36,7 @@ pub fn same_range(a: Endpoint, b: Endpoint) -> bool
     octets::same_bytes(&one[..3], &other[..3])
 }
 
-fn count(b: bool) -> usize
+pub fn count(b: bool) -> usize
     ensures { λ r. ⌜ r ≡ cond b 1 0 ⌝ }
 {
     if b { 1 } else { 0 }

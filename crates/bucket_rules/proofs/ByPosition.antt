@@ -1,6 +1,6 @@
 -- What a rule changes by key, it changes at the position where the key is held. Assumes nothing.
 use mathlib.Core.Path.{_≡_, refl, sym, ap, _∙_}
-use mathlib.Core.Bool.{Bool, true, false, cond, not}
+use mathlib.Core.Bool.{true, false, cond, not}
 use mathlib.Core.List.{List, [], _∷_, _++_, map, append-nil}
 use Prim.Native.Nat.{ℕ}
 use borrow.Author.Tests.{not-true, not-false}
@@ -13,12 +13,12 @@ use Rattle.entry.specs.Layout.{noEntry}
 use Rattle.bucket_model.specs.Contents.{Contents}
 use Rattle.bucket_model.specs.Rules.{isOf, ofKey, without, update, toTail, held, mayTake, takesEntry, pinged, ponged, heard, newEntry, onPingSent, onPong, onHeard}
 use Rattle.bucket_model.specs.Sound.{distinct}
-use Rattle.bucket.specs.declared.Position.{Position}
-use Rattle.bucket.specs.declared.Position.the-variants.{Absent, InEntries, InReplacements}
+use Rattle.bucket.specs.declared.Position.the-variants.{InEntries, InReplacements}
 use Rattle.bucket.specs.Steps.{removeAt, indexOf, positionOf}
-use Rattle.bucket_rules.specs.declared.Lookup.{Lookup}
-use Rattle.bucket_rules.specs.Steps.{found, LooksUp, putAt, tailAt, promoteAt, joinLine}
-use Rattle.bucket_rules.proofs.ByKey.{none-of, none-without, none-update, one-of, one-without, one-update, Found, located}
+use Rattle.bucket_lookup.specs.declared.Lookup.{Lookup}
+use Rattle.bucket_lookup.specs.Steps.{found, LooksUp}
+use Rattle.bucket_rules.specs.Steps.{putAt, tailAt, promoteAt, joinLine}
+use Rattle.bucket_lookup.proofs.ByKey.{none-of, none-without, none-update, one-of, one-without, one-update, Found, located}
 
 -- one entry of a list, which is the one of the key
 module _ (key : Bytes) (l : List Entry) (i : ℕ) (f : Entry → Entry) (e : Entry) (h : Found key l i) (one : ofKey key l ≡ e ∷ []) where

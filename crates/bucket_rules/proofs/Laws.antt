@@ -1,26 +1,18 @@
 -- The changes at a position, on a bucket by value. Assumes nothing.
-use mathlib.Core.Path.{_≡_, refl, sym, ap, _∙_}
-use mathlib.Core.Bool.{Bool, true, false}
+use mathlib.Core.Path.{_≡_}
+use mathlib.Core.Bool.{true, false}
 use mathlib.Core.List.{List, [], _∷_, _++_}
-use Prim.Native.Nat.{ℕ, _≤_, _<_}
+use Prim.Native.Nat.{ℕ}
 use native.Mathlib.Omega.{arith}
 use lib.ListN.{length, set}
-use Rattle.node.specs.declared.Endpoint.{Endpoint}
 use Rattle.entry.specs.declared.Entry.{Entry}
-use Rattle.bucket_model.specs.Contents.{Contents}
 use Rattle.bucket_model.specs.Rules.{mayTake}
-use Rattle.bucket_model.proofs.Ranges.{take-room}
 use Rattle.bucket.specs.declared.EntryList.{EntryList}
 use Rattle.bucket.specs.declared.Bucket.{Bucket}
-use Rattle.bucket.specs.declared.Position.{Position}
-use Rattle.bucket.specs.declared.Position.the-variants.{Absent, InEntries, InReplacements}
+use Rattle.bucket.specs.declared.Position.the-variants.{InReplacements}
 use Rattle.bucket.specs.Steps.{listed, Holds, removeAt, contents, Shows, InBounds}
-use Rattle.bucket.proofs.Laws.{length-listed, holds-listed}
-use Rattle.bucket_rules.specs.Steps.{putAt, tailAt, promoteAt, joinLine}
-
--- who may take an entry finds room
-pub room-for-one : (l : EntryList) (a : Endpoint) → length (l .items) ≡ 16 → l .len ≤ 16 → mayTake (listed l) a ≡ true → l .len < 16
-room-for-one l a n h may = omega (arith, length-listed l n h, take-room (listed l) a may)
+use Rattle.bucket.proofs.Laws.{holds-listed}
+use Rattle.bucket_rules.specs.Steps.{promoteAt}
 
 module _ (b : Bucket) (n : length (b .entries .items) ≡ 16) (k : length (b .replacements .items) ≡ 16) (h : InBounds b) where
   entries-held : Holds (b .entries) (listed (b .entries))

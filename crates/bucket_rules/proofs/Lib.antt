@@ -1,5 +1,2 @@
-pub mod SweepLaws
-pub mod LookupLaws
-pub mod ByKey
 pub mod ByPosition
 pub mod Laws

@@ -8,8 +8,8 @@ use Rattle.lists.specs.Lists.{any, empty}
 use Rattle.entry.specs.declared.Entry.{Entry}
 use Rattle.bucket_model.specs.Contents.{Contents}
 use Rattle.bucket_model.specs.Rules.{ofKey, held, hasEntry, freeEntry, rangeFull, rangeTaken}
-use Rattle.bucket_rules.specs.declared.Lookup.{Lookup}
-use Rattle.bucket_rules.specs.Steps.{found, LooksUp}
+use Rattle.bucket_lookup.specs.declared.Lookup.{Lookup}
+use Rattle.bucket_lookup.specs.Steps.{found, LooksUp}
 use Rattle.packet.specs.declared.Pong.{Pong}
 use Rattle.call_answer.specs.declared.Standing.the-variants.{Tail, TookEntry, RangeFull, Waiting}
 use Rattle.call_answer.specs.declared.Outcome.the-variants as outcome

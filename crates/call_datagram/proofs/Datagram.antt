@@ -25,8 +25,9 @@ use Rattle.call_touched.specs.Steps.{SoundAt}
 use Rattle.call_touched.proofs.Touch.{sound-at}
 use Rattle.call_answer.specs.declared.Received.{Received}
 use Rattle.call_answer.specs.Answer.{refusal}
-use Rattle.call_datagram.specs.declared.Judged.the-variants.{Refused, Passed}
-use Rattle.call_datagram.specs.Steps.{judgedBy, datagramFront, passedTo, judged, delivered, afterDelivery}
+use Rattle.call_judge.specs.declared.Judged.the-variants.{Refused, Passed}
+use Rattle.call_judge.specs.Steps.{judgedBy, datagramFront, passedTo, judged}
+use Rattle.call_datagram.specs.Steps.{delivered, afterDelivery}
 use Rattle.call_datagram.specs.Received.{received}
 
 -- ---- what was read

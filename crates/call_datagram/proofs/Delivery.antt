@@ -1,14 +1,11 @@
 -- A packet reaches its sender's bucket: what is answered and what is written. Assumes nothing.
 use mathlib.Core.Path.{_≡_, refl, sym, ap, _∙_}
-use mathlib.Core.Bool.{Bool, true, false}
-use mathlib.Core.List.{List}
+use mathlib.Core.Bool.{true, false}
 use Prim.Native.Nat.{ℕ, _≤_}
 use borrow.Author.Tests.{eq-eqb, ne-eqb}
 use lib.Dec.{eqb}
 use Rattle.octets.specs.Octets.{Bytes, IsBytes}
-use Rattle.lists.specs.Lists.{first}
 use Rattle.distance.specs.Distance.{home}
-use Rattle.bucket_model.specs.Contents.{Contents}
 use Rattle.bucket_model.proofs.Sound.{BucketSound}
 use Rattle.bucket_model.proofs.Kept.{sound-later, sound-heard, sound-pong}
 use Rattle.table_model.specs.Layout.{bucketAt, ownOf, clockOf, countOf, numberAt}
@@ -22,21 +19,10 @@ use Rattle.bucket.specs.Steps.{Shows, InBounds}
 use Rattle.bucket.proofs.Laws.{bounded-shown}
 use Rattle.call_touched.specs.Steps.{withBucket, SoundAt}
 use Rattle.call_touched.proofs.Slots.{held-sound}
-use Rattle.call_answer.specs.declared.Received.{Received}
-use Rattle.call_answer.specs.Answer.{refusal, accepted, unlessRefused}
-use Rattle.call_datagram.specs.declared.Reply.{Reply}
-use Rattle.call_datagram.specs.Steps.{Replies, RepliesTo, packetNumber, delivered, afterDelivery}
-
--- ---- the reply to a packet
-
-module _ {tests : List (Bool × ℕ)} {m : Contents} {r : Received} (b : Bucket) where
-  pub refuses : {n : ℕ} → n ≡ first tests → (n ≡ 0 → ⊥) → Replies tests m r (record { number = n; after = b; answer = refusal n })
-  refuses {n} e some = record { number = e; after = λ z. absurd (some z); answer = sym (rw (ne-eqb n 0 some) refl) }
-
-  pub accepts : {x : Received} → 0 ≡ first tests → Shows b m → x ≡ r → Replies tests m r (record { number = 0; after = b; answer = x })
-  accepts none h e = record { number = none; after = λ z. h; answer = e }
-
--- ---- the answer, and the bytes after it
+use Rattle.call_answer.specs.Answer.{accepted, unlessRefused}
+use Rattle.call_packet.specs.declared.Reply.{Reply}
+use Rattle.call_packet.specs.Steps.{RepliesTo}
+use Rattle.call_datagram.specs.Steps.{packetNumber, delivered, afterDelivery}
 
 module _ (s : Bytes) (slot now : ℕ) (address : Bytes) (udp : ℕ) (key g : Bytes) (p : Packet) {reply : Reply}
     (h : RepliesTo (envOf reading s) now address udp key g p (bucketAt s slot) reply) where

@@ -26,9 +26,9 @@ use Rattle.bucket.specs.declared.Position.the-variants.{Absent, InEntries, InRe
 use Rattle.bucket.specs.declared.Bucket.{Bucket}
 use Rattle.bucket.specs.Steps.{indexOf, contents, Shows, positionOf}
 use Rattle.bucket.proofs.Laws.{of-shown}
-use Rattle.bucket_rules.specs.declared.Lookup.{Lookup}
-use Rattle.bucket_rules.specs.Steps.{onlyAt, found, Ready, LooksUp}
-use Rattle.bucket_rules.proofs.ByKey.{located}
+use Rattle.bucket_lookup.specs.declared.Lookup.{Lookup}
+use Rattle.bucket_lookup.specs.Steps.{onlyAt, found, Ready, LooksUp}
+use Rattle.bucket_lookup.proofs.ByKey.{located}
 use Rattle.table_model.specs.Layout.{ownOf, countOf, bucketAt}
 use Rattle.table_model.proofs.Header.{header-sound}
 use Rattle.call_history.specs.Model.{bucketNumber, isOwn, isKept, slot}

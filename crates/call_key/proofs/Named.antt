@@ -22,7 +22,7 @@ use Rattle.bucket_model.specs.Contents.{Contents, encodeBucket, decodeBucket}
 use Rattle.bucket_model.specs.Rules.{maxEntries, isOf, ofKey, toTail, ponged, mayTake, onPong, hasEntry, freeEntry, rangeTaken}
 use Rattle.bucket_model.proofs.Kept.{sound-later, sound-pong}
 use Rattle.bucket_model.proofs.Values.{sound-encoded, decoded-sound, values-pong}
-use Rattle.bucket_rules.proofs.ByKey.{none-of, none-without}
+use Rattle.bucket_lookup.proofs.ByKey.{none-of, none-without}
 use Rattle.table_model.specs.Layout.{ownOf, clockOf, countOf, numberAt, offsetOf, bucketBytes, bucketAt, headerSound}
 use Rattle.table_model.specs.Sound.{bucketSound}
 use Rattle.table_model.proofs.Header.{header-sound, sound-header}
@@ -45,8 +45,9 @@ use Rattle.call_answer.specs.declared.Outcome.the-variants as outcome
 use Rattle.call_answer.specs.declared.Received.{Received}
 use Rattle.call_answer.specs.Answer.{headOf, accepted, unlessRefused}
 use Rattle.call_answer.specs.Answer as answer
-use Rattle.call_datagram.specs.declared.Judged.the-variants.{Passed}
-use Rattle.call_datagram.specs.Steps.{datagramFront, judged, packetNumber, delivered, afterDelivery}
+use Rattle.call_judge.specs.declared.Judged.the-variants.{Passed}
+use Rattle.call_judge.specs.Steps.{datagramFront, judged}
+use Rattle.call_datagram.specs.Steps.{packetNumber, delivered, afterDelivery}
 use Rattle.call_datagram.specs.Received.{received}
 use Rattle.call_datagram.proofs.Datagram.{front-passed, whole, ready, done}
 use Rattle.call_datagram.proofs.Answered.{answer-number}

@@ -6,7 +6,7 @@ ghost use Rattle.octets.specs.Octets.{Bytes};
 ghost use Rattle.lists.specs.Lists.{first};
 ghost use Rattle.table_model.specs.Layout.{clockOf};
 ghost use Rattle.bucket.specs.Steps.{contents, InBounds};
-ghost use Rattle.bucket_rules.specs.Steps.{LooksUp};
+ghost use Rattle.bucket_lookup.specs.Steps.{LooksUp};
 ghost use Rattle.call_history.specs.Model as model;
 ghost use Rattle.call_model.specs.Calls.{answerOn, bytesAfter};
 ghost use Rattle.call_model.specs.Reading.{reading};
@@ -14,7 +14,7 @@ ghost use Rattle.call_touched.specs.Steps.{SoundAt};
 ghost use Rattle.call_history.specs.Model.{heldRefusals};
 ghost use Rattle.call_ping_sent.specs.Steps.{placedAt, placed, pingSentTests, noteNumber, afterNote};
 use bucket::Bucket;
-use bucket_rules::Lookup;
+use bucket_lookup::Lookup;
 use call_touched::Placed;
 use call_touched::Reach;
 use node::MonotonicMillis;
@@ -104,7 +104,7 @@ fn note(
     ensures { λ r. ⌜ now (table .exit) ≡ afterNote (now (table .entry)) slot (clock .0) (now (key .entry)) (now (address .entry)) udp tcp (now (hash .entry)) ⌝ }
 {
     let b = call_touched::bucket_in(table, slot);
-    let l = bucket_rules::look_up(b, key);
+    let l = bucket_lookup::look_up(b, key);
     let refused = ping_sent_number(b, l, address, udp);
     if refused != 0 {
         return refused;

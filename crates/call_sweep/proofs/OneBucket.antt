@@ -19,7 +19,7 @@ use Rattle.bucket.proofs.Laws.{shown, bounded-shown}
 use Rattle.table_model.specs.Sound.{anywhere}
 use Rattle.table_model.proofs.Records.{store-part}
 use Rattle.table_model.proofs.Sound.{SoundBucket, decoded-bucket, encoded-bucket}
-use Rattle.bucket_rules.specs.Steps.{stays}
+use Rattle.bucket_sweep.specs.Steps.{stays}
 use Rattle.call_sweep.specs.Steps.{nothingGoes}
 use Rattle.call_sweep.proofs.Unchanged.{sweep-unchanged}
 

@@ -10,7 +10,7 @@ use Rattle.entry.specs.declared.PingState.{PingState}
 use Rattle.entry.specs.declared.EndpointProof.{EndpointProof}
 use Rattle.entry.specs.Layout.{decodeEntry, decodeStamp, pingOf, proofOf}
 use Rattle.bucket_model.specs.Rules.{isOverdue, proofExpired}
-use Rattle.bucket_rules.specs.Steps.{stays}
+use Rattle.bucket_sweep.specs.Steps.{stays}
 
 module _ (s : Bytes) (at now : ℕ) {stamp : Stamp} {ping : PingState} {overdue : Bool}
     (es : stamp ≡ decodeStamp (part s (at + 102) 9)) (ep : ping ≡ pingOf stamp) (eo : overdue ≡ isOverdue now ping) where

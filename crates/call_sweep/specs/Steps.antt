@@ -7,7 +7,7 @@ use Rattle.octets.specs.Octets.{Bytes}
 use Rattle.lists.specs.Lists.{first, all}
 use Rattle.bucket_model.specs.Contents.{Contents}
 use Rattle.bucket_model.specs.Rules.{onSweep}
-use Rattle.bucket_rules.specs.Steps.{stays}
+use Rattle.bucket_sweep.specs.Steps.{stays}
 use Rattle.table_model.specs.Layout.{encodeTable, ownOf, clockOf, bucketsOf}
 use Rattle.table_model.specs.Sound.{tableSound}
 

@@ -15,7 +15,7 @@ ghost use Rattle.bucket_model.specs.Rules.{onSweep};
 ghost use Rattle.bucket_model.specs.Sound.{sound};
 ghost use Rattle.table_model.specs.Layout.{encodeTable, ownOf, clockOf, bucketsOf};
 ghost use Rattle.table_model.specs.Sound.{anywhere, tableSound};
-ghost use Rattle.bucket_rules.specs.Steps.{stays};
+ghost use Rattle.bucket_sweep.specs.Steps.{stays};
 ghost use Rattle.call_sweep.specs.Steps.{nothingGoes, sweepAnswer, sweepTable};
 use bucket::Bucket;
 use entry::Entry;
@@ -87,7 +87,7 @@ fn sweep_bucket(bytes: &mut [u8], at: usize, time: MonotonicMillis)
         return;
     }
     let b = Bucket::load(bytes, at);
-    let swept = bucket_rules::sweep(b, time);
+    let swept = bucket_sweep::sweep(b, time);
     swept.store(bytes, at);
 }
 

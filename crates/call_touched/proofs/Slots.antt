@@ -22,7 +22,7 @@ use Rattle.table_model.proofs.Sound.{counts-at}
 use Rattle.bucket.specs.declared.Bucket.{Bucket}
 use Rattle.bucket.specs.Steps.{contents, Shows}
 use Rattle.bucket.proofs.Laws.{shown, bounded-shown}
-use Rattle.bucket_rules.specs.Steps.{Ready}
+use Rattle.bucket_lookup.specs.Steps.{Ready}
 use Rattle.call_touched.specs.Steps.{SoundAt, withBucket}
 
 -- the keys in a sound bucket's bytes are distinct

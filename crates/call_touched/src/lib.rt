@@ -7,7 +7,7 @@ ghost use lib.ListN.{length};
 ghost use Rattle.lists.specs.Lists.{first};
 ghost use Rattle.table_model.specs.Layout.{countOf, offsetOf, bucketAt, headerSound};
 ghost use Rattle.bucket.specs.Steps.{contents, Shows, InBounds};
-ghost use Rattle.bucket_rules.specs.Steps.{Ready};
+ghost use Rattle.bucket_lookup.specs.Steps.{Ready};
 ghost use Rattle.call_touched.specs.Steps.{touchedSound, Below, reached, isWrongKey, isOwnKey, keyTests, keptPlace, SoundAt, withBucket};
 use bucket::Bucket;
 use node::MonotonicMillis;

@@ -1,4 +1,3 @@
-pub mod CallLines
 pub mod Fields
 pub mod Answered
 pub mod Lines

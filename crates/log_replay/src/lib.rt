@@ -1,15 +1,10 @@
 // The replay of a log, line by line: the table is the first bytes of a lent memory, and a line's answer is written into lent bytes.
 ghost use mathlib.Core.Path.{_≡_};
-ghost use Prim.Native.Nat.{_+_, _≤_};
+ghost use Prim.Native.Nat.{_≤_};
 ghost use lib.ListN.{length};
 ghost use Rattle.octets.specs.Octets.{store};
-ghost use Rattle.call_history.specs.Model as model;
-ghost use Rattle.call_model.specs.Calls.{answerOn, bytesAfter};
-ghost use Rattle.call_model.specs.Reading.{reading};
-ghost use Rattle.call_datagram.specs.Received.{received};
 ghost use Rattle.log_line.specs.Fields.{said};
 ghost use Rattle.log_answer.specs.AnswerRows.{answerRoom, numberRow};
-ghost use Rattle.log_answer.specs.AnswerLine.{receivedRow};
 ghost use Rattle.log_lines.specs.Lines.{whole};
 ghost use Rattle.log_state.specs.State.{stateOf};
 ghost use Rattle.printout.specs.Printout.{printoutRoom};
@@ -17,97 +12,9 @@ ghost use Rattle.log_replay.specs.Replay.{Reached, ending};
 ghost use Rattle.log_replay.specs.Steps.{AnsweredLine};
 use log_answer::put_number;
 use log_line::Line;
-use log_line::decode_field;
 use log_own::own;
 use log_state::Replay;
 use log_state::Stepped;
-use node::MonotonicMillis;
-use node::UnixSeconds;
-use packet_span::Span;
-
-// `rx`: milliseconds, Unix seconds, address, port, signer, datagram.
-pub fn rx(
-    table: &mut [u8],
-    out: &mut [u8],
-    line: &[u8],
-    clock: u64,
-    unix: u64,
-    address: Span,
-    port: u16,
-    signer: Span,
-    datagram: Span,
-) -> usize
-    requires { ⌜ (answerRoom ≤ length (now out)) × ((length (now line) ≤ 3000) × ((address .start + address .len ≤ length (now line)) × ((signer .start + signer .len ≤ length (now line)) × (datagram .start + datagram .len ≤ length (now line))))) ⌝ }
-    ensures len { λ r. ⌜ r ≡ length (receivedRow (received (now (table .entry)) clock unix (said (now (line .entry)) address) port (said (now (line .entry)) signer) (said (now (line .entry)) datagram))) ⌝ }
-    ensures written { λ _. ⌜ now (out .exit) ≡ store (now (out .entry)) 0 (receivedRow (received (now (table .entry)) clock unix (said (now (line .entry)) address) port (said (now (line .entry)) signer) (said (now (line .entry)) datagram))) ⌝ }
-    ensures bytes { λ _. ⌜ now (table .exit) ≡ bytesAfter reading (now (table .entry)) (model.datagram clock unix (said (now (line .entry)) address) port (said (now (line .entry)) signer) (said (now (line .entry)) datagram)) ⌝ }
-    ensures room { λ r. ⌜ r ≤ answerRoom ⌝ }
-{
-    let mut from = [0u8; 1500];
-    let a = decode_field(line, address, &mut from);
-    let mut key = [0u8; 1500];
-    let k = decode_field(line, signer, &mut key);
-    let mut bytes = [0u8; 1500];
-    let n = decode_field(line, datagram, &mut bytes);
-    let received = call_datagram::datagram_on(
-        table,
-        MonotonicMillis(clock),
-        UnixSeconds(unix),
-        &from[0..a],
-        port,
-        &key[0..k],
-        &bytes[0..n],
-    );
-    log_answer::put_received(out, received)
-}
-
-// `sent`: milliseconds, key, address, UDP port, TCP port, hash.
-pub fn sent(
-    table: &mut [u8],
-    out: &mut [u8],
-    line: &[u8],
-    clock: u64,
-    key: Span,
-    address: Span,
-    udp: u16,
-    tcp: u16,
-    hash: Span,
-) -> usize
-    requires { ⌜ (answerRoom ≤ length (now out)) × ((length (now line) ≤ 3000) × ((key .start + key .len ≤ length (now line)) × ((address .start + address .len ≤ length (now line)) × (hash .start + hash .len ≤ length (now line))))) ⌝ }
-    ensures len { λ r. ⌜ r ≡ length (numberRow (answerOn reading (now (table .entry)) (model.pingSent clock (said (now (line .entry)) key) (said (now (line .entry)) address) udp tcp (said (now (line .entry)) hash)))) ⌝ }
-    ensures written { λ _. ⌜ now (out .exit) ≡ store (now (out .entry)) 0 (numberRow (answerOn reading (now (table .entry)) (model.pingSent clock (said (now (line .entry)) key) (said (now (line .entry)) address) udp tcp (said (now (line .entry)) hash)))) ⌝ }
-    ensures bytes { λ _. ⌜ now (table .exit) ≡ bytesAfter reading (now (table .entry)) (model.pingSent clock (said (now (line .entry)) key) (said (now (line .entry)) address) udp tcp (said (now (line .entry)) hash)) ⌝ }
-    ensures room { λ r. ⌜ r ≤ answerRoom ⌝ }
-{
-    let mut node = [0u8; 1500];
-    let k = decode_field(line, key, &mut node);
-    let mut to = [0u8; 1500];
-    let a = decode_field(line, address, &mut to);
-    let mut bytes = [0u8; 1500];
-    let n = decode_field(line, hash, &mut bytes);
-    let number = call_ping_sent::ping_sent_on(
-        table,
-        MonotonicMillis(clock),
-        &node[0..k],
-        &to[0..a],
-        udp,
-        tcp,
-        &bytes[0..n],
-    );
-    put_number(out, number)
-}
-
-// `sweep`: milliseconds.
-pub fn sweep(table: &mut [u8], out: &mut [u8], clock: u64) -> usize
-    requires { ⌜ answerRoom ≤ length (now out) ⌝ }
-    ensures len { λ r. ⌜ r ≡ length (numberRow (answerOn reading (now (table .entry)) (model.sweep clock))) ⌝ }
-    ensures written { λ _. ⌜ now (out .exit) ≡ store (now (out .entry)) 0 (numberRow (answerOn reading (now (table .entry)) (model.sweep clock))) ⌝ }
-    ensures bytes { λ _. ⌜ now (table .exit) ≡ bytesAfter reading (now (table .entry)) (model.sweep clock) ⌝ }
-    ensures room { λ r. ⌜ r ≤ answerRoom ⌝ }
-{
-    let number = call_sweep::sweep_on(table, MonotonicMillis(clock));
-    put_number(out, number)
-}
 
 // Answers one line, without its 0A.
 pub fn step(memory: &mut [u8], out: &mut [u8], replay: Replay, line: &[u8]) -> Stepped
@@ -127,7 +34,7 @@ pub fn step(memory: &mut [u8], out: &mut [u8], replay: Replay, line: &[u8]) -> S
             port,
             signer,
             datagram,
-        } => rx(
+        } => log_calls::rx(
             &mut memory[0..size],
             out,
             line,
@@ -145,7 +52,7 @@ pub fn step(memory: &mut [u8], out: &mut [u8], replay: Replay, line: &[u8]) -> S
             udp,
             tcp,
             hash,
-        } => sent(
+        } => log_calls::sent(
             &mut memory[0..size],
             out,
             line,
@@ -156,7 +63,7 @@ pub fn step(memory: &mut [u8], out: &mut [u8], replay: Replay, line: &[u8]) -> S
             tcp,
             hash,
         ),
-        Line::Sweep { now } => sweep(&mut memory[0..size], out, now),
+        Line::Sweep { now } => log_calls::sweep(&mut memory[0..size], out, now),
         Line::Unreadable => put_number(out, numbers::UNREADABLE),
     };
     Stepped { replay, len }

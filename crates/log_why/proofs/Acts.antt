@@ -15,8 +15,8 @@ use Rattle.bucket.specs.declared.Position.the-variants.{Absent, InEntries, InRe
 use Rattle.bucket_model.specs.Contents.{noContents}
 use Rattle.bucket_model.specs.Rules.{ofKey, isVerified, isOverdue}
 use Rattle.bucket_model.proofs.View.{SameAs}
-use Rattle.bucket_rules.specs.declared.Lookup.{Lookup}
-use Rattle.bucket_rules.specs.Steps.{onlyAt, found, inEntries}
+use Rattle.bucket_lookup.specs.declared.Lookup.{Lookup}
+use Rattle.bucket_lookup.specs.Steps.{onlyAt, found, inEntries}
 use Rattle.call_history.specs.Model.{Env, Call, datagram, pingSent, sweep, closest, Table, fresh, slot, bucketOf, answer, next}
 use Rattle.call_history.proofs.Step.{fresh-bucket}
 use Rattle.call_history.proofs.View.{other-datagram, other-pingSent}
@@ -29,10 +29,11 @@ use Rattle.log_history.specs.Why.{seatIn, placeIn, heldIn, seats, joins, remove
 use Rattle.log_history.specs.declared.Trail.{Trail}
 use Rattle.log_history.specs.Trail.{trailAfter}
 use Rattle.log_run.proofs.Kept.{Kept, none, some}
-use Rattle.log_why.specs.declared.Acted.{Acted}
-use Rattle.log_why.specs.Steps.{idle, fromIt, actsBy, actsOf, seatsBy, joinsBy, removesBy, standingBy, trailBy}
+use Rattle.log_acts.specs.declared.Acted.{Acted}
+use Rattle.log_acts.specs.Acts.{idle, fromIt, actsBy, actsOf}
+use Rattle.log_why.specs.Steps.{seatsBy, joinsBy, removesBy, standingBy, trailBy}
 use Rattle.log_why.specs.Tracking.{Stands}
-use Rattle.log_why.proofs.Leaves.{not-not}
+use Rattle.log_acts.proofs.Leaves.{not-not}
 
 -- ---- at most one entry is found
 

@@ -1,7 +1,5 @@
-pub mod Leaves
-pub mod Keys
+pub mod Trails
 pub mod Places
 pub mod Acts
-pub mod Calls
 pub mod Noted
 pub mod Whole

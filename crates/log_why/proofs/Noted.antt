@@ -6,7 +6,7 @@ use mathlib.Core.List.{_∷_}
 use native.Mathlib.Numerals.{add-one}
 use Rattle.octets.specs.Octets.{Bytes}
 use Rattle.lists.proofs.Laws.{byTest, never}
-use Rattle.bucket_rules.specs.declared.Lookup.{Lookup}
+use Rattle.bucket_lookup.specs.declared.Lookup.{Lookup}
 use Rattle.log_lines.specs.Lines.{Held, tooLong}
 use Rattle.log_state.specs.declared.Replay.{Replay}
 use Rattle.log_state.specs.State.{stateOf}
@@ -16,11 +16,13 @@ use Rattle.log_history.specs.Trail.{trailOf}
 use Rattle.log_replay.specs.Replay.{after}
 use Rattle.log_run.specs.Run.{SameLines, line as next-line}
 use Rattle.log_run.proofs.Kept.{kept, same-number}
-use Rattle.log_why.specs.declared.Acted.{Acted}
-use Rattle.log_why.specs.declared.Taken.{Taken}
+use Rattle.log_acts.specs.declared.Acted.{Acted}
+use Rattle.log_acts.specs.declared.Taken.{Taken}
 use Rattle.log_why.specs.declared.Tracked.{Tracked}
-use Rattle.log_why.specs.Steps.{idle, actsOf, trailBy}
-use Rattle.log_why.specs.Tracking.{Stands, Tracks, ActedLine, NotedLine}
+use Rattle.log_acts.specs.Acts.{idle, actsOf}
+use Rattle.log_why.specs.Steps.{trailBy}
+use Rattle.log_acts.specs.ActedLine.{ActedLine}
+use Rattle.log_why.specs.Tracking.{Stands, Tracks, NotedLine}
 use Rattle.log_why.proofs.Acts.{trail-step, unlooked}
 
 lines-more : (t : Trail) (a : Acted) (l l′ : Lookup) → trailBy t a l l′ .lines ≡ t .lines + 1

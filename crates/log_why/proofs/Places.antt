@@ -16,8 +16,8 @@ use Rattle.bucket.specs.declared.Position.{Position}
 use Rattle.bucket.specs.declared.Position.the-variants.{Absent}
 use Rattle.bucket.specs.Steps.{contents, Shows}
 use Rattle.bucket.proofs.Laws.{shown}
-use Rattle.bucket_rules.specs.declared.Lookup.{Lookup}
-use Rattle.bucket_rules.specs.Steps.{onlyAt, found, inEntries, LooksUp}
+use Rattle.bucket_lookup.specs.declared.Lookup.{Lookup}
+use Rattle.bucket_lookup.specs.Steps.{onlyAt, found, inEntries, LooksUp}
 use Rattle.table_model.specs.Layout.{ownOf, countOf, bucketAt, headerSound}
 use Rattle.table_model.specs.Sound.{bucketSound, bucketsSound, tableSound}
 use Rattle.table_model.specs.Facts.{SoundTable}
@@ -32,7 +32,8 @@ use Rattle.call_model.proofs.Form.{slot-below, table-form, reads}
 use Rattle.call_touched.specs.Steps.{SoundAt}
 use Rattle.log_state.specs.declared.Replay.{Replay}
 use Rattle.log_state.specs.State.{State, sizeOf, stateOf}
-use Rattle.log_state.proofs.Memory.{size-none, front-part}
+use Rattle.log_state.proofs.Memory.{size-none}
+use Rattle.log_acts.proofs.Calls.{at-front}
 use Rattle.log_history.specs.Past.{Stage, rulesFor, Past}
 use Rattle.log_replay.specs.Replay.{Reached}
 use Rattle.log_replay.proofs.Kept.{good-table, reached-good}
@@ -67,12 +68,9 @@ sound-slot s key ok =
 -- ---- the table in the memory
 
 module _ (replay : Replay) (memory : Bytes) (z : ℕ) (ez : z ≡ sizeOf (replay .count)) where
-  pub at-front : take (z - 0) (drop 0 memory) ≡ stateOf replay memory .table
-  at-front = front-part memory z ∙ ap (λ k. take k memory) ez
-
   pub front-sound : 46304 ≤ length memory → replay .count ≤ 16 → Reached (stateOf replay memory) → (replay .count ≡ 0 → ⊥)
       → tableSound (take (z - 0) (drop 0 memory)) ≡ true
-  front-sound big few reached some-count = ap tableSound at-front ∙ good-table replay memory big few some-count (reached-good reached) .0
+  front-sound big few reached some-count = ap tableSound (at-front replay memory z ez) ∙ good-table replay memory big few some-count (reached-good reached) .0
 
 -- ---- where a node stands
 

@@ -12,7 +12,7 @@ use Rattle.lists.proofs.Laws.{byTest}
 use Rattle.text.specs.Marks.{until}
 use Rattle.text.specs.Lines.{linesOf}
 use Rattle.text.proofs.Lines.{line-at, lines-none}
-use Rattle.bucket_rules.specs.Steps.{onlyAt, inEntries}
+use Rattle.bucket_lookup.specs.Steps.{onlyAt, inEntries}
 use Rattle.log_lines.specs.Lines.{limit, Held, whole, tooLong, held}
 use Rattle.log_lines.specs.Steps.{fresh}
 use Rattle.log_lines.specs.Feeding.{Feeds, join}

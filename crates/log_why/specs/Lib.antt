@@ -1,4 +1,3 @@
-pub mod Row
 pub mod Steps
 pub mod Tracking
 pub mod Claims

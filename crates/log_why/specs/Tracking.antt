@@ -1,27 +1,23 @@
 -- A log followed line by line: the replay, where the node stands in its table, and its trail are those that the lines read so far give.
-use Prim.Native.Nat.{ℕ, _+_, _^_, _≤_, _<_}
+use Prim.Native.Nat.{_+_, _^_, _≤_, _<_}
 use mathlib.Core.Path.{_≡_}
-use mathlib.Core.Bool.{Bool, false, not}
+use mathlib.Core.Bool.{not}
 use mathlib.Core.List.{List, [], _∷_}
 use lib.ListN.{length}
 use Rattle.octets.specs.Octets.{Bytes}
 use Rattle.lists.specs.Lists.{empty}
 use Rattle.bucket.specs.declared.Position.the-variants.{Absent}
-use Rattle.bucket_rules.specs.declared.Lookup.{Lookup}
-use Rattle.bucket_rules.specs.Steps.{found, inEntries}
+use Rattle.bucket_lookup.specs.declared.Lookup.{Lookup}
+use Rattle.bucket_lookup.specs.Steps.{found, inEntries}
 use Rattle.log_lines.specs.Lines.{Held}
-use Rattle.log_state.specs.declared.Replay.{Replay}
 use Rattle.log_state.specs.State.{stateOf}
 use Rattle.log_history.specs.Past.{asked, Stage, Past, readOne}
 use Rattle.log_history.specs.Why.{seatIn, heldIn}
 use Rattle.log_history.specs.Trail.{noTrail, trailOf}
 use Rattle.log_replay.specs.Replay.{after, Reached}
 use Rattle.log_replay.specs.Steps.{startReplay}
-use Rattle.log_run.specs.Run.{SameLines, numberOn}
-use Rattle.log_why.specs.declared.Acted.{Acted}
-use Rattle.log_why.specs.declared.Taken.{Taken}
+use Rattle.log_run.specs.Run.{SameLines}
 use Rattle.log_why.specs.declared.Tracked.{Tracked}
-use Rattle.log_why.specs.Steps.{actsOf}
 
 -- l is where the node X stands, and its entry there
 pub record Stands (X : Bytes) (g : Stage) (l : Lookup) : Type 0 where
@@ -46,12 +42,6 @@ pub record Ready (at : Tracked) (memory : Bytes) : Type 0 where
   pub count : at .replay .count ≤ 16
   pub reached : Reached (stateOf (at .replay) memory)
   pub lines : at .trail .lines < 2 ^ 63
-
--- a line is taken, where X stood at l: the memory becomes m′
-pub record ActedLine (X : Bytes) (replay : Replay) (l : Lookup) (line : Held) (memory : Bytes) (r : Taken) (m′ : Bytes) : Type 0 where
-  pub state : stateOf (r .replay) m′ ≡ after (stateOf replay memory) line
-  pub acted : r .acted ≡ actsOf X l (numberOn (stateOf replay memory) (asked line)) (asked line)
-  pub count : r .replay .count ≤ 16
 
 -- a line is noted: the replay's state is that of the replay, and what is carried of X fits the lines with one more
 pub record NotedLine (X : Bytes) (at : Tracked) (line : Held) (memory : Bytes) (r : Tracked) (m′ : Bytes) : Type 0 where

@@ -10,8 +10,8 @@ use Rattle.octets.proofs.Laws.{slice-drop}
 use Rattle.rlp.specs.Encoding.{Item, encodes, Small}
 use Rattle.packet_schema.specs.Schema.{verdict}
 use Rattle.packet_schema.specs.Shapes.{Begins, Accepted}
-use Rattle.packet_schema.specs.declared.Verdict.{Verdict}
-use Rattle.packet_schema.specs.declared.Verdict.the-variants.{Good, Broken, Wrong}
+use Rattle.packet_kinds.specs.declared.Verdict.{Verdict}
+use Rattle.packet_kinds.specs.declared.Verdict.the-variants.{Good, Broken, Wrong}
 use Rattle.packet_schema.proofs.Shapes.{AllLimited}
 use Rattle.packet_schema.proofs.Accepted.{small-data, good-accepted, accepted-good}
 use Rattle.packet_span.specs.Parts.{bytesOf}

@@ -2,7 +2,7 @@
 use mathlib.Core.Path.{refl}
 use Rattle.octets.specs.Octets.{part, numberFrom}
 use Rattle.rlp.specs.Reading.{head, sized, long, strict, whole, count, uintOf}
-use Rattle.packet_schema.specs.Payload.{itemsOf}
+use Rattle.packet_kinds.specs.Payload.{itemsOf}
 use Rattle.packet_schema.specs.Schema.{field}
 use Rattle.packet_fields.specs.Spans.{spanOf, itemSpan, uintItem, portItem, enrSeqItem}
 use Rattle.packet.specs.Packets.{typeOf, endpointOf, pingOf, enrRequestOf, readAs}

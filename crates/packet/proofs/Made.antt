@@ -5,9 +5,9 @@ use mathlib.Core.List.{List}
 use lib.ListN.{length, take}
 use Rattle.octets.specs.Octets.{Bytes}
 use Rattle.packet_schema.specs.Schema.{verdict}
-use Rattle.packet_schema.specs.declared.Kind.{Kind}
-use Rattle.packet_schema.specs.declared.Verdict.{Verdict}
-use Rattle.packet_schema.specs.declared.Verdict.the-variants.{Good}
+use Rattle.packet_kinds.specs.declared.Kind.{Kind}
+use Rattle.packet_kinds.specs.declared.Verdict.{Verdict}
+use Rattle.packet_kinds.specs.declared.Verdict.the-variants.{Good}
 use Rattle.packet_span.specs.Parts.{bytesOf, moved}
 use Rattle.packet_fields.specs.Spans.{spanOf, portItem}
 use Rattle.packet.specs.Packets.{endpointOf, schemaOf, requiredOf, packetOf, answered, readAs}

@@ -17,7 +17,7 @@ use Rattle.rlp.proofs.Encoding.{read-item, encode-length, small-first, small-re
 use Rattle.packet_model.specs.Items.{uint, node, nodeItem}
 use Rattle.packet_model.proofs.From.{address-range}
 use Rattle.packet_schema.specs.Shapes.{IsEndpoint, IsNode, AllNodes}
-use Rattle.packet_schema.proofs.Payload.{items-encodes}
+use Rattle.packet_kinds.proofs.Payload.{items-encodes}
 use Rattle.node.specs.declared.Node.{Node}
 use Rattle.node.specs.Nodes.{addressOf, isAddress}
 use Rattle.packet_fields.specs.Spans.{fitting, padded, nodeOf, nodesOf}

@@ -14,11 +14,11 @@ use Rattle.rlp.specs.Reading.{head, extent, offset, count, uintOf}
 use Rattle.rlp.proofs.Encoding.{read-item, read-payload, encode-length, uint-read, count-encodes, offset-encodes, nth-item}
 use Rattle.packet_model.specs.Items.{dataOf, uint, endpoint}
 use Rattle.packet_model.specs.declared.EnrSeq.the-variants.{Absent, Present}
-use Rattle.packet_schema.specs.Payload.{itemsOf}
+use Rattle.packet_kinds.specs.Payload.{itemsOf}
 use Rattle.packet_model.specs.From.{From, unknown, known, fromBytes, isFrom}
 use Rattle.packet_model.proofs.From.{address-range}
 use Rattle.packet_schema.specs.Shapes.{Begins}
-use Rattle.packet_schema.proofs.Payload.{items-item, items-encodes}
+use Rattle.packet_kinds.proofs.Payload.{items-item, items-encodes}
 use Rattle.packet_span.specs.Parts.{bytesOf, moved}
 use Rattle.packet_fields.specs.Spans.{spanOf, itemSpan, itemAt, valueOf, uintItem, portItem, enrSeqItem}
 use Rattle.packet.specs.Packets.{endpointOf, senderOf, said}

@@ -5,11 +5,11 @@ use mathlib.Core.List.{List, [], _∷_}
 use lib.Dec.{eqb}
 use Rattle.octets.specs.Octets.{Bytes}
 use Rattle.packet_schema.specs.Schema.{verdict}
-use Rattle.packet_schema.specs.declared.Kind.{Kind}
-use Rattle.packet_schema.specs.declared.Kind.the-variants.{Uint, Endpoint, Sender, Nodes, Record}
-use Rattle.packet_schema.specs.declared.Kind.the-variants as kind
-use Rattle.packet_schema.specs.declared.Verdict.{Verdict}
-use Rattle.packet_schema.specs.declared.Verdict.the-variants.{Good, Broken, Wrong}
+use Rattle.packet_kinds.specs.declared.Kind.{Kind}
+use Rattle.packet_kinds.specs.declared.Kind.the-variants.{Uint, Endpoint, Sender, Nodes, Record}
+use Rattle.packet_kinds.specs.declared.Kind.the-variants as kind
+use Rattle.packet_kinds.specs.declared.Verdict.{Verdict}
+use Rattle.packet_kinds.specs.declared.Verdict.the-variants.{Good, Broken, Wrong}
 use Rattle.packet_span.specs.Parts.{bytesOf, moved}
 use Rattle.packet_fields.specs.Spans.{spanOf, itemSpan, uintItem, portItem, enrSeqItem}
 use Rattle.packet.specs.declared.PacketType.{PacketType}

@@ -8,8 +8,8 @@ use Rattle.octets.specs.Octets.{Bytes, Slice}
 use Rattle.octets.proofs.Laws.{slice-drop}
 use Rattle.rlp.proofs.Cases.{by-eqb}
 use Rattle.packet_schema.specs.Schema.{verdict}
-use Rattle.packet_schema.specs.declared.Verdict.{Verdict}
-use Rattle.packet_schema.specs.declared.Verdict.the-variants.{Good, Broken, Wrong}
+use Rattle.packet_kinds.specs.declared.Verdict.{Verdict}
+use Rattle.packet_kinds.specs.declared.Verdict.the-variants.{Good, Broken, Wrong}
 use Rattle.packet_schema.proofs.Torn.{broken-torn, torn-broken}
 use Rattle.packet_span.specs.Parts.{bytesOf}
 use Rattle.packet_fields.specs.Spans.{spanOf}

@@ -6,8 +6,8 @@ use Rattle.octets.specs.Octets.{Bytes}
 use Rattle.lists.proofs.Laws.{byTest}
 use Rattle.node.specs.declared.UnixSeconds.{UnixSeconds}
 use Rattle.packet_schema.specs.Schema.{verdict}
-use Rattle.packet_schema.specs.declared.Verdict.{Verdict}
-use Rattle.packet_schema.specs.declared.Verdict.the-variants.{Good, Broken, Wrong}
+use Rattle.packet_kinds.specs.declared.Verdict.{Verdict}
+use Rattle.packet_kinds.specs.declared.Verdict.the-variants.{Good, Broken, Wrong}
 use Rattle.packet.specs.Packets.{typeOf, requiredOf, schemaOf, packetOf, answered, readAs, readTyped}
 use Rattle.packet.specs.declared.TypeByte.{TypeByte}
 use Rattle.packet.specs.declared.TypeByte.the-variants.{Known, Unknown}

@@ -15,8 +15,8 @@ use Rattle.rlp.proofs.Reading.{InBounds, head-bounds, offset-bound, offset-brok
 use Rattle.rlp.specs.declared.Header.{Header}
 use Rattle.rlp.specs.declared.Header.the-variants as read
 use Rattle.rlp.specs.declared.Uint.{Uint}
-use Rattle.packet_schema.specs.Payload.{itemsOf}
-use Rattle.packet_schema.proofs.Payload.{items-item, items-broken, payload-is, count-items}
+use Rattle.packet_kinds.specs.Payload.{itemsOf}
+use Rattle.packet_kinds.proofs.Payload.{items-item, items-broken, payload-is, count-items}
 use Rattle.packet_span.specs.Parts.{bytesOf, moved}
 use Rattle.packet_span.specs.declared.Span.{Span}
 use Rattle.packet_span.proofs.Parts.{bytes-in}

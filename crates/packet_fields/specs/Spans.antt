@@ -11,7 +11,7 @@ use Rattle.rlp.specs.declared.Header.{Header}
 use Rattle.rlp.specs.declared.Header.the-variants as read
 use Rattle.rlp.specs.declared.Uint as rlp-uint
 use Rattle.rlp.specs.declared.Uint.the-variants as uint
-use Rattle.packet_schema.specs.Payload.{itemsOf}
+use Rattle.packet_kinds.specs.Payload.{itemsOf}
 use Rattle.node.specs.declared.Node.{Node}
 use Rattle.packet_model.specs.declared.EnrSeq.{EnrSeq}
 use Rattle.packet_model.specs.declared.EnrSeq.the-variants.{Absent, Present}

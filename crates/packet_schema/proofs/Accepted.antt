@@ -13,13 +13,13 @@ use Rattle.rlp.proofs.Encoding.{read-item, read-payload, read-sound, whole-enco
 use Rattle.rlp.specs.declared.Header.{Header}
 use Rattle.rlp.specs.declared.Header.the-variants as read
 use Rattle.packet_model.specs.Items.{dataOf}
-use Rattle.packet_schema.specs.Payload.{itemsOf}
+use Rattle.packet_kinds.specs.Payload.{itemsOf}
 use Rattle.packet_schema.specs.Schema.{fields, verdict}
 use Rattle.packet_schema.specs.Shapes.{Begins, Accepted}
-use Rattle.packet_schema.specs.declared.Kind.{Kind}
-use Rattle.packet_schema.specs.declared.Verdict.{Verdict}
-use Rattle.packet_schema.specs.declared.Verdict.the-variants.{Good, Broken}
-use Rattle.packet_schema.proofs.Payload.{items-encodes, encodes-items, slices-items}
+use Rattle.packet_kinds.specs.declared.Kind.{Kind}
+use Rattle.packet_kinds.specs.declared.Verdict.{Verdict}
+use Rattle.packet_kinds.specs.declared.Verdict.the-variants.{Good, Broken}
+use Rattle.packet_kinds.proofs.Payload.{items-encodes, encodes-items, slices-items}
 use Rattle.packet_schema.proofs.Shapes.{AllLimited, fields-shapes, shapes-fields}
 
 -- the items of data that fits memory are small

@@ -1,5 +1,3 @@
-pub mod ItemTurns
-pub mod Payload
 pub mod Turns
 pub mod Shapes
 pub mod Accepted

@@ -16,16 +16,16 @@ use Rattle.rlp.specs.declared.Uint.the-variants as value
 use Rattle.packet_model.specs.Items.{uint, endpoint, node}
 use Rattle.packet_model.specs.From.{From, fromSaid, fromBytes, isFrom}
 use Rattle.packet_model.proofs.From.{said-bytes, said-good, from-sender}
-use Rattle.packet_schema.specs.Payload.{itemsOf}
-use Rattle.packet_schema.specs.Kinds.{worst, goodIf, atMost, isLeaf, leaves, tuple, isRecordItem}
-use Rattle.packet_schema.specs.Kinds as schema
+use Rattle.packet_kinds.specs.Payload.{itemsOf}
+use Rattle.packet_kinds.specs.Kinds.{worst, goodIf, atMost, isLeaf, leaves, tuple, isRecordItem}
+use Rattle.packet_kinds.specs.Kinds as schema
 use Rattle.packet_schema.specs.Schema.{eachNode, nodes, field, fields}
 use Rattle.packet_schema.specs.Shapes.{IsEndpoint, IsSender, IsUint, IsString, IsAddressItem, IsSenderAddress, IsEndpointItem, IsSenderItem, IsNode, AllNodes, IsNodes, IsRecord, Shape, Shapes}
-use Rattle.packet_schema.specs.declared.Kind.{Kind}
-use Rattle.packet_schema.specs.declared.Kind.the-variants.{Uint, Bytes, Address, SenderAddress, Endpoint, Sender, Nodes, Record}
-use Rattle.packet_schema.specs.declared.Verdict.{Verdict}
-use Rattle.packet_schema.specs.declared.Verdict.the-variants.{Good, Broken, Wrong}
-use Rattle.packet_schema.proofs.Payload.{items-encodes, encodes-items, Slices, slices-items}
+use Rattle.packet_kinds.specs.declared.Kind.{Kind}
+use Rattle.packet_kinds.specs.declared.Kind.the-variants.{Uint, Bytes, Address, SenderAddress, Endpoint, Sender, Nodes, Record}
+use Rattle.packet_kinds.specs.declared.Verdict.{Verdict}
+use Rattle.packet_kinds.specs.declared.Verdict.the-variants.{Good, Broken, Wrong}
+use Rattle.packet_kinds.proofs.Payload.{items-encodes, encodes-items, Slices, slices-items}
 
 -- ---- verdicts and tests
 

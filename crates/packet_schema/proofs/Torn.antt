@@ -15,17 +15,17 @@ use Rattle.rlp.specs.Reading.{head, whole}
 use Rattle.rlp.proofs.Encoding.{read-payload, whole-encodes, whole-is-encodes, small-items}
 use Rattle.rlp.specs.declared.Header.{Header}
 use Rattle.rlp.specs.declared.Header.the-variants as read
-use Rattle.packet_schema.specs.Payload.{itemsOf}
-use Rattle.packet_schema.specs.Kinds.{worst, goodIf, isLeaf, leaves, tuple, isRecordItem}
-use Rattle.packet_schema.specs.Kinds as schema
+use Rattle.packet_kinds.specs.Payload.{itemsOf}
+use Rattle.packet_kinds.specs.Kinds.{worst, goodIf, isLeaf, leaves, tuple, isRecordItem}
+use Rattle.packet_kinds.specs.Kinds as schema
 use Rattle.packet_schema.specs.Schema.{eachNode, nodes, field, fields, verdictOf, verdict}
 use Rattle.packet_schema.specs.Shapes.{Begins}
 use Rattle.packet_schema.specs.Torn.{IsItems, TornList, AnyTorn, TornNodes, Torn, TornField, TornData}
-use Rattle.packet_schema.specs.declared.Kind.{Kind}
-use Rattle.packet_schema.specs.declared.Kind.the-variants.{Uint, Bytes, Address, SenderAddress, Endpoint, Sender, Nodes, Record}
-use Rattle.packet_schema.specs.declared.Verdict.{Verdict}
-use Rattle.packet_schema.specs.declared.Verdict.the-variants.{Good, Broken, Wrong}
-use Rattle.packet_schema.proofs.Payload.{items-encodes, encodes-items, Slices, slices-items}
+use Rattle.packet_kinds.specs.declared.Kind.{Kind}
+use Rattle.packet_kinds.specs.declared.Kind.the-variants.{Uint, Bytes, Address, SenderAddress, Endpoint, Sender, Nodes, Record}
+use Rattle.packet_kinds.specs.declared.Verdict.{Verdict}
+use Rattle.packet_kinds.specs.declared.Verdict.the-variants.{Good, Broken, Wrong}
+use Rattle.packet_kinds.proofs.Payload.{items-encodes, encodes-items, Slices, slices-items}
 use Rattle.packet_schema.proofs.Accepted.{small-data, verdict-data, good-accepted}
 
 -- ---- verdicts

@@ -14,12 +14,12 @@ use Rattle.rlp.specs.Encoding.{Item}
 use Rattle.rlp.specs.Reading.{head, whole}
 use Rattle.rlp.proofs.Encoding.{head-none}
 use Rattle.rlp.specs.declared.Header.the-variants as read
-use Rattle.packet_schema.specs.Payload.{itemsOf}
-use Rattle.packet_schema.specs.Kinds.{worst, goodIf, tuple, node}
-use Rattle.packet_schema.specs.declared.Kind.{Kind}
-use Rattle.packet_schema.specs.declared.Verdict.{Verdict}
-use Rattle.packet_schema.specs.declared.Verdict.the-variants.{Good, Broken, Wrong}
-use Rattle.packet_schema.proofs.ItemTurns.{kinds-end, kinds-next, left, taken, after, left-next, left-none}
+use Rattle.packet_kinds.specs.Payload.{itemsOf}
+use Rattle.packet_kinds.specs.Kinds.{worst, goodIf, tuple, node}
+use Rattle.packet_kinds.specs.declared.Kind.{Kind}
+use Rattle.packet_kinds.specs.declared.Verdict.{Verdict}
+use Rattle.packet_kinds.specs.declared.Verdict.the-variants.{Good, Broken, Wrong}
+use Rattle.packet_kinds.proofs.ItemTurns.{kinds-end, kinds-next, left, taken, after, left-next, left-none}
 use Rattle.packet_schema.specs.Schema.{eachNode, field, fields, verdict}
 
 -- the verdicts of three, in either grouping

@@ -9,12 +9,12 @@ use Rattle.rlp.specs.Encoding.{Item, string, list}
 use Rattle.rlp.specs.Reading.{head, whole}
 use Rattle.rlp.specs.declared.Header.{Header}
 use Rattle.rlp.specs.declared.Header.the-variants as read
-use Rattle.packet_schema.specs.Payload.{itemsOf}
-use Rattle.packet_schema.specs.Kinds.{worst, goodIf, isLeaf, tuple, endpoint, sender, node, isRecordItem}
-use Rattle.packet_schema.specs.declared.Kind.{Kind}
-use Rattle.packet_schema.specs.declared.Kind.the-variants.{Uint, Bytes, Address, SenderAddress, Endpoint, Sender, Nodes, Record}
-use Rattle.packet_schema.specs.declared.Verdict.{Verdict}
-use Rattle.packet_schema.specs.declared.Verdict.the-variants.{Good, Broken, Wrong}
+use Rattle.packet_kinds.specs.Payload.{itemsOf}
+use Rattle.packet_kinds.specs.Kinds.{worst, goodIf, isLeaf, tuple, endpoint, sender, node, isRecordItem}
+use Rattle.packet_kinds.specs.declared.Kind.{Kind}
+use Rattle.packet_kinds.specs.declared.Kind.the-variants.{Uint, Bytes, Address, SenderAddress, Endpoint, Sender, Nodes, Record}
+use Rattle.packet_kinds.specs.declared.Verdict.{Verdict}
+use Rattle.packet_kinds.specs.declared.Verdict.the-variants.{Good, Broken, Wrong}
 
 abbrev pub eachNode : List Item → Verdict
 eachNode [] = Good

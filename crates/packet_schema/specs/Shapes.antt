@@ -9,8 +9,8 @@ use Rattle.octets.specs.Octets as octets
 use Rattle.rlp.specs.Encoding.{Item, string, list, encode, encodes}
 use Rattle.packet_model.specs.Items.{dataOf, uint, endpoint, node}
 use Rattle.packet_model.specs.From.{From, fromBytes, isFrom}
-use Rattle.packet_schema.specs.declared.Kind.{Kind}
-use Rattle.packet_schema.specs.declared.Kind.the-variants.{Uint, Bytes, Address, SenderAddress, Endpoint, Sender, Nodes, Record}
+use Rattle.packet_kinds.specs.declared.Kind.{Kind}
+use Rattle.packet_kinds.specs.declared.Kind.the-variants.{Uint, Bytes, Address, SenderAddress, Endpoint, Sender, Nodes, Record}
 
 -- address of 4 or 16 bytes, ports of 16 bits
 pub record IsEndpoint (address : octets.Bytes) (udp tcp : ℕ) : Type 0 where

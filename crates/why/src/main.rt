@@ -12,9 +12,9 @@ use log_lines::Begun;
 use log_lines::LIMIT;
 use log_lines::Last;
 use log_lines::Step;
+use log_reason::Why;
 use log_state::MEMORY;
 use log_why::Tracked;
-use log_why::Why;
 use replay_output::write_out;
 
 // No log has more lines.
@@ -210,7 +210,7 @@ fn print_row(row: &[u8], n: usize)
 // Writes the row of an answer.
 fn print_why(answer: Why) {
     let mut row = [0u8; 64];
-    let n = log_why::put_why(&mut row, answer);
+    let n = log_reason::put_why(&mut row, answer);
     print_row(&row, n);
 }
 
@@ -282,10 +282,10 @@ fn main() {
     // a text that doesn't fit the buffer, or is missing, is left as an empty one
     let mut text = io::buffer();
     let length = os::arg(1, &mut text);
-    if !log_why::is_key_text(&text[..length]) {
+    if !log_reason::is_key_text(&text[..length]) {
         print_why(Why::WrongKey);
         return;
     }
-    let key = log_why::key_of(&text[..length]);
+    let key = log_reason::key_of(&text[..length]);
     tell_of(&key);
 }

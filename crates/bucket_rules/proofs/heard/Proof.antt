@@ -1,6 +1,6 @@
 -- `bucket_rules::heard` meets its contract. Assumes nothing.
 use Rattle.bucket.specs.Steps.{contents}
-use Rattle.bucket_rules.proofs.LookupLaws.{within}
+use Rattle.bucket_lookup.proofs.Laws.{within}
 use Rattle.bucket_rules.proofs.ByPosition.{heard-is}
 use borrow.Author.Needs.{needs}
 use Rattle.bucket_rules.proofs.heard.Statement.{statement}

@@ -1,7 +1,7 @@
 -- `bucket_rules::ping_sent` meets its contract. Assumes nothing.
 use mathlib.Core.Path.{sym, _∙_}
 use Rattle.bucket.specs.Steps.{contents}
-use Rattle.bucket_rules.proofs.LookupLaws.{within}
+use Rattle.bucket_lookup.proofs.Laws.{within}
 use Rattle.bucket_rules.proofs.ByPosition.{pinged-is, new-is}
 use borrow.Author.Needs.{needs}
 use Rattle.bucket_rules.proofs.ping_sent.Statement.{statement}

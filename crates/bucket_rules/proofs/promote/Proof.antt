@@ -2,7 +2,8 @@
 use mathlib.Core.Path.{_≡_, sym, _∙_}
 use lib.ListN.{length}
 use Rattle.bucket.proofs.Laws.{length-mapped}
-use Rattle.bucket_rules.proofs.Laws.{room-for-one, promoted-free, promoted-full}
+use Rattle.bucket_range.proofs.Laws.{room-for-one}
+use Rattle.bucket_rules.proofs.Laws.{promoted-free, promoted-full}
 use borrow.Author.Needs.{needs}
 use Rattle.bucket_rules.proofs.promote.Statement.{statement}
 use Rattle.bucket_rules.proofs.promote.Tie as tie

@@ -2,7 +2,7 @@
 use mathlib.Core.Path.{_≡_}
 use lib.ListN.{length}
 use Rattle.bucket.proofs.Laws.{length-mapped}
-use Rattle.bucket_rules.proofs.LookupLaws.{in-entries, in-replacements}
+use Rattle.bucket_lookup.proofs.Laws.{in-entries, in-replacements}
 use Rattle.bucket_rules.proofs.Laws.{unchanged}
 use borrow.Author.Needs.{needs}
 use Rattle.bucket_rules.proofs.promote_at.Statement.{statement}

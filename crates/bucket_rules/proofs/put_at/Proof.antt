@@ -3,7 +3,7 @@ use mathlib.Core.Path.{_≡_}
 use lib.ListN.{length}
 use Rattle.bucket.proofs.Laws.{length-mapped}
 use native.Mathlib.Omega.{arith}
-use Rattle.bucket_rules.proofs.LookupLaws.{in-entries, in-replacements}
+use Rattle.bucket_lookup.proofs.Laws.{in-entries, in-replacements}
 use Rattle.bucket_rules.proofs.Laws.{with-entries, with-replacements, unchanged}
 use borrow.Author.Needs.{needs}
 use Rattle.bucket_rules.proofs.put_at.Statement.{statement}

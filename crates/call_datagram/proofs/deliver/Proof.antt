@@ -7,7 +7,7 @@ use Rattle.call_model.specs.Calls.{envOf}
 use Rattle.call_model.specs.Reading.{packetReading, reading}
 use Rattle.bucket.proofs.Laws.{of-shown}
 use Rattle.call_touched.proofs.Slots.{fits, written}
-use Rattle.call_datagram.specs.Steps.{RepliesTo}
+use Rattle.call_packet.specs.Steps.{RepliesTo}
 use Rattle.call_datagram.proofs.Delivery.{replied, not-delivered, is-delivered, bounded-datagram}
 use Rattle.call_datagram.proofs.deliver.Statement.{statement}
 use Rattle.call_datagram.proofs.deliver.Tie as tie

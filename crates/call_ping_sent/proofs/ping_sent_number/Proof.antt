@@ -14,7 +14,7 @@ use Rattle.entry.specs.declared.Entry.{Entry}
 use Rattle.bucket_model.specs.Rules.{noRoom}
 use Rattle.bucket.specs.Steps.{contents}
 use Rattle.bucket.proofs.Laws.{length-mapped, length-listed}
-use Rattle.bucket_rules.specs.Steps.{found, LooksUp}
+use Rattle.bucket_lookup.specs.Steps.{found, LooksUp}
 use Rattle.call_ping_sent.proofs.ping_sent_number.Statement.{statement}
 use Rattle.call_ping_sent.proofs.ping_sent_number.Tie as tie
 

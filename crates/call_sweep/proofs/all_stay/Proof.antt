@@ -4,7 +4,7 @@ use Prim.Native.Nat.{_≤_}
 use native.Mathlib.Omega.{arith}
 use Rattle.lists.specs.Lists.{all}
 use Rattle.table_model.proofs.Entries.{behind, behind-none, behind-all, all-turn}
-use Rattle.bucket_rules.specs.Steps.{stays}
+use Rattle.bucket_sweep.specs.Steps.{stays}
 use Rattle.call_sweep.proofs.all_stay.Statement.{statement}
 use Rattle.call_sweep.proofs.all_stay.Tie as tie
 

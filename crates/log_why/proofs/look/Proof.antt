@@ -2,7 +2,8 @@
 use Rattle.table_model.specs.Sound.{tableSound}
 use mathlib.Core.Path.{_≡_}
 use mathlib.Core.Bool.{true}
-use Rattle.log_why.proofs.Places.{sound-slot, at-front, front-sound, stands-nowhere, stands-looked}
+use Rattle.log_acts.proofs.Calls.{at-front}
+use Rattle.log_why.proofs.Places.{sound-slot, front-sound, stands-nowhere, stands-looked}
 use borrow.Author.Needs.{needs}
 use Rattle.log_why.proofs.look.Statement.{statement}
 use Rattle.log_why.proofs.look.Tie as tie

@@ -1,7 +1,7 @@
 -- `log_why::standing_after` meets its contract. Assumes nothing.
 use mathlib.Core.Path.{sym, _∙_}
 use borrow.Author.Tests.{not-true, not-false}
-use Rattle.log_why.proofs.Leaves.{by-seat, by-joining, by-staying, by-ping, by-proof}
+use Rattle.log_why.proofs.Trails.{by-seat, by-joining, by-staying, by-ping, by-proof}
 use borrow.Author.Needs.{needs}
 use Rattle.log_why.proofs.standing_after.Statement.{statement}
 use Rattle.log_why.proofs.standing_after.Tie as tie

@@ -1,7 +1,7 @@
 -- `log_why::tell_why` meets its contract. Assumes nothing.
 use mathlib.Core.Path.{sym, _∙_}
 use borrow.Author.Tests.{not-true, not-false}
-use Rattle.log_why.proofs.Keys.{told-wrong, told-key}
+use Rattle.log_reason.proofs.Keys.{told-wrong, told-key}
 use borrow.Author.Needs.{needs}
 use Rattle.log_why.proofs.tell_why.Statement.{statement}
 use Rattle.log_why.proofs.tell_why.Tie as tie

@@ -3,7 +3,7 @@ use Prim.Native.Nat.{_+_}
 use mathlib.Core.Path.{refl, ap, _∙_}
 use mathlib.Core.Logic.{⊎-elim}
 use mathlib.Core.Bool.{cond, _||_}
-use Rattle.log_why.proofs.Leaves.{trail-is}
+use Rattle.log_why.proofs.Trails.{trail-is}
 use borrow.Author.Needs.{needs}
 use Rattle.log_why.proofs.trail_after.Statement.{statement}
 use Rattle.log_why.proofs.trail_after.Tie as tie

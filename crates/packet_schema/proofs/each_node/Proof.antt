@@ -4,7 +4,7 @@ use mathlib.Core.Path.{_≡_, refl, _∙_}
 use native.Mathlib.Omega.{arith}
 use lib.ListN.{length}
 use Rattle.rlp.proofs.Reading.{head-at, item-at}
-use Rattle.packet_schema.specs.Payload.{itemsOf}
+use Rattle.packet_kinds.specs.Payload.{itemsOf}
 use Rattle.packet_schema.specs.Schema.{eachNode}
 use Rattle.packet_schema.proofs.Turns.{nodes-todo, nodes-none, nodes-end, nodes-item}
 use borrow.Author.Needs.{needs}

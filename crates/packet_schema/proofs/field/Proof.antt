@@ -1,6 +1,6 @@
 -- `packet_schema::field` meets its contract. Assumes nothing.
 use mathlib.Core.Path.{ap, _∙_}
-use Rattle.packet_schema.specs.Kinds.{goodIf}
+use Rattle.packet_kinds.specs.Kinds.{goodIf}
 use Rattle.packet_schema.specs.Schema.{field}
 use borrow.Author.Needs.{needs}
 use Rattle.packet_schema.proofs.field.Statement.{statement}

@@ -5,9 +5,9 @@ use native.Mathlib.Nat.{sub-zero}
 use native.Mathlib.Omega.{arith}
 use lib.ListN.{length, take}
 use Rattle.rlp.proofs.Reading.{head-at, item-at}
-use Rattle.packet_schema.specs.Payload.{itemsOf}
-use Rattle.packet_schema.specs.Kinds.{worst}
-use Rattle.packet_schema.specs.declared.Kind.the-variants.{Uint}
+use Rattle.packet_kinds.specs.Payload.{itemsOf}
+use Rattle.packet_kinds.specs.Kinds.{worst}
+use Rattle.packet_kinds.specs.declared.Kind.the-variants.{Uint}
 use Rattle.packet_schema.specs.Schema as spec
 use Rattle.packet_schema.proofs.Turns.{todo, fields-end, fields-none, fields-item}
 use borrow.Author.Needs.{needs}

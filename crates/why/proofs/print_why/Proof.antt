@@ -4,7 +4,7 @@ use mathlib.Core.Path.{_≡_, sym, ap, _∙_}
 use native.Mathlib.Omega.{arith}
 use lib.ListN.{length, replicate, length-replicate}
 use Rattle.octets.proofs.Laws.{length-store}
-use Rattle.log_why.specs.Row.{whyRow}
+use Rattle.log_reason.specs.Row.{whyRow}
 use borrow.Author.Needs.{needs}
 use Rattle.why.proofs.print_why.Statement.{statement}
 use Rattle.why.proofs.print_why.Tie as tie

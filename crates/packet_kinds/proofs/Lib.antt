@@ -1,0 +1,2 @@
+pub mod ItemTurns
+pub mod Payload
