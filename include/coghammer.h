@@ -31,6 +31,10 @@ extern "C" {
 #define COGHAMMER_NUMBER(code) ((uint8_t)((code) & 0xff))
 #define COGHAMMER_VALUE(code) ((uint32_t)(code) >> 8)
 
+// The value of coghammer_closest is two: how many nodes the list received, and how many distances to the target were worked out.
+#define COGHAMMER_COUNT(code) ((uint8_t)((code) >> 8 & 0xff))
+#define COGHAMMER_DISTANCES(code) ((uint8_t)((code) >> 16 & 0xff))
+
 // ---- answer numbers: the lowest that applies is given, and nothing lent has changed then but the counters
 
 enum {
@@ -105,6 +109,7 @@ enum {
     COGHAMMER_BODY_AT = 97,
     COGHAMMER_RECORD_MOST = 300,
     COGHAMMER_CLOSEST = 16,        // the most nodes of a closest list, and the least that one must have room for
+    COGHAMMER_DISTANCES_MOST = 31, // the most distances that a closest call works out
     COGHAMMER_NEIGHBORS_MOST = 12, // the most nodes that a written Neighbors has
     COGHAMMER_BUCKETS_MOST = 256,
     COGHAMMER_SEATS_MOST = 16,     // of a bucket
@@ -201,7 +206,8 @@ uint8_t coghammer_burst(coghammer_counters *counters, uint8_t *table, size_t tab
 void coghammer_clear(coghammer_counters *counters);
 
 // Writes the seated nodes nearest to the target (a key, also the own one), nearest first, to the front of a list of at least COGHAMMER_CLOSEST; the records
-// after them stay. The code is of 0 and how many they are, or of 1, 5 or 19.
+// after them stay. The code is of 0, with COGHAMMER_COUNT(code) nodes and COGHAMMER_DISTANCES(code) distances worked out, or of 1, 5 or 19. Buckets are taken
+// nearest first until sixteen nodes are gathered, so the distances, one for each node seated in those taken, are at most COGHAMMER_DISTANCES_MOST.
 uint32_t coghammer_closest(coghammer_node *list, size_t list_len, const uint8_t *table, size_t table_len, const uint8_t *target, size_t target_len);
 
 // ---- what a table tells: it is lent to read. Where the answer number isn't 0, nothing is written

@@ -69,7 +69,7 @@ static size_t fill(int count, int out) {
 }
 
 static uint8_t distances[FULL * ENTRIES][32];
-static int order[FULL * ENTRIES];
+static int order[FULL * ENTRIES], most;
 static int nearer(const void *a, const void *b) {
     int x = *(const int *)a, y = *(const int *)b, c = memcmp(distances[x], distances[y], 32);
     return c ? c : x - y;
@@ -85,7 +85,9 @@ static void compare(size_t size, const uint8_t *target) {
         order[i] = i;
     }
     qsort(order, FULL * ENTRIES, sizeof *order, nearer);
-    if (coghammer_closest(list, 16, table, size, target, 64) != 16 << 8) puts("closest: not sixteen"), exit(1);
+    uint32_t code = coghammer_closest(list, 16, table, size, target, 64);
+    if (COGHAMMER_COUNT(code) != 16) puts("closest: not sixteen"), exit(1);
+    if (COGHAMMER_DISTANCES(code) > most) most = COGHAMMER_DISTANCES(code);
     for (size_t i = 0; i < 16; i++)
         if (memcmp(list[i].key, keys[order[i] / ENTRIES][order[i] % ENTRIES], 64)) puts("closest differs from a plain sort"), exit(1);
 }
@@ -103,7 +105,7 @@ static void measure(int count) {
         for (int b = 0; b < FULL; b++)
             for (int k = 0; k < PLACES; k++) coghammer_keccak256(keys[b][k], 64, out);
         double hashed = now();
-        if (coghammer_closest(list, 16, spare, size, target, 64) != 16 << 8) exit(1);
+        if (COGHAMMER_COUNT(coghammer_closest(list, 16, spare, size, target, 64)) != 16) exit(1);
         double chosen = now();
         if (coghammer_sweep(&counters, spare, size, (coghammer_millis){10})) exit(1);
         double swept = now();
@@ -116,7 +118,7 @@ static void measure(int count) {
         target[t % 64] += 3;
     }
     const char *names[4] = {"hashing every held key", "closest", "sweep, nothing goes", "sweep, one goes in each full bucket"};
-    printf("%d buckets, the highest %d of them full: %d nodes\n", count, FULL, FULL * PLACES);
+    printf("%d buckets, the highest %d of them full: %d nodes; at most %d distances worked out for a list\n", count, FULL, FULL * PLACES, most);
     for (int i = 0; i < 4; i++) printf("  %-36s %9.1f us  %.2f\n", names[i], best[i] / 1e3, best[i] / best[0]);
 }
 

@@ -62,17 +62,19 @@ static unsigned run(unsigned count, uint64_t until) {
 }
 
 static void report(unsigned count, unsigned received) {
-    unsigned types[7] = {0}, full = 0;
+    unsigned types[7] = {0}, full = 0, most = 0;
     for (unsigned i = 0; i < count; i++) {
         const node *n = &nodes[i];
         unsigned refused = 0;
         for (int j = 1; j < COGHAMMER_COUNTS; j++) refused += n->counters.counts[j];
         for (int j = 1; j < 7; j++) types[j] += n->received[j];
         full += n->full_replies;
+        if (n->most_distances > most) most = n->most_distances;
         printf("node %u: port %u, %u calls done, %u refused\n", i, n->self.endpoint.udp, n->counters.counts[0], refused);
     }
     printf("%u datagrams: %u ping, %u pong, %u findnode, %u neighbors, %u enr request, %u enr response accepted; %u replies of 12 nodes and 4\n",
            received, types[1], types[2], types[3], types[4], types[5], types[6], full);
+    printf("at most %u distances worked out for a closest list\n", most);
 }
 
 int main(int argc, char **argv) {

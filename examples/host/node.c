@@ -83,8 +83,12 @@ static void send_pong(node *n, const coghammer_node *to, const uint8_t *ping) {
 }
 
 // How many nodes the table has near a target, with the nodes.
-static size_t closest(const node *n, const uint8_t target[64], coghammer_node list[CLOSEST]) {
-    return COGHAMMER_VALUE(coghammer_closest(list, CLOSEST, n->table, TABLE_SIZE, target, 64));
+static size_t closest(node *n, const uint8_t target[64], coghammer_node list[CLOSEST]) {
+    uint32_t code = coghammer_closest(list, CLOSEST, n->table, TABLE_SIZE, target, 64);
+    unsigned distances = COGHAMMER_DISTANCES(code);
+    if (distances > COGHAMMER_DISTANCES_MOST) abort(); // proved: it can't be
+    if (distances > n->most_distances) n->most_distances = distances;
+    return COGHAMMER_COUNT(code);
 }
 
 size_t node_ask(node *n) {

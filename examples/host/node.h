@@ -27,6 +27,7 @@ typedef struct {
     recording recording;
     unsigned received[7]; // accepted datagrams by type
     unsigned full_replies; // replies of 12 nodes and 4
+    unsigned most_distances; // that a closest call worked out
 } node;
 
 // A node on loopback, at an address by its number and a port that the system chooses. The clock of all nodes starts with the first one.

@@ -55,6 +55,7 @@ static void layout(void) {
     CHECK(sizeof(coghammer_millis) == 8 && sizeof(coghammer_unix) == 8);
     CHECK(COGHAMMER_NUMBER(0x010203) == 3 && COGHAMMER_VALUE(0x010203) == 0x0102);
     CHECK(COGHAMMER_TYPE_OF(0x010203) == 2 && COGHAMMER_OUTCOME(0x010203) == 1);
+    CHECK(COGHAMMER_COUNT(0x1f1000) == 16 && COGHAMMER_DISTANCES(0x1f1000) == COGHAMMER_DISTANCES_MOST);
     CHECK(COGHAMMER_TABLE_SIZE(16) == 46304 && COGHAMMER_FIELDS == 20 && COGHAMMER_FIELD_RECORD_LEN == 19 && COGHAMMER_PACKED_NODE == 85);
     CHECK(COGHAMMER_PRINTOUT_SIZE(16) == 43881 && COGHAMMER_STATE == 4 && COGHAMMER_HEAD == 2 && COGHAMMER_HELD == 3);
 }
@@ -360,7 +361,7 @@ static void calls(void) {
     memset(list, 0xee, sizeof list);
     CHECK(is(coghammer_closest(list, 15, table, SIZE, own, 64), 19, 0) && is(coghammer_closest(list, 16, table, SIZE, own, 63), 5, 0));
     CHECK(is(coghammer_closest(list, 16, table, SIZE - 1, own, 64), 1, 0) && all((uint8_t *)list, sizeof list, 0xee));
-    CHECK(is(coghammer_closest(list, 17, table, SIZE, own, 64), 0, 1));
+    CHECK(is(coghammer_closest(list, 17, table, SIZE, own, 64), 0, 1 + 256 * 1));
     CHECK(memcmp(list[0].key, peer, 64) == 0 && list[0].endpoint.len == 4 && memcmp(list[0].endpoint.address, address, 4) == 0);
     CHECK(list[0].endpoint.udp == 30303 && list[0].endpoint.tcp == 30304 && all((uint8_t *)(list + 1), 16 * sizeof list[0], 0xee));
 

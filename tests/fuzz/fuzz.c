@@ -528,9 +528,11 @@ static void find_closest(const uint8_t *memory, size_t len) {
     settle(before, sizeof before);
     uint64_t code = call(closest, (lent[6]){{before, count * sizeof before[0], list}, {memory, len, NULL}, {peers[0].key, about(64), NULL}}, NULL);
     uint8_t number = COGHAMMER_NUMBER(code);
-    size_t found = COGHAMMER_VALUE(code);
+    size_t found = COGHAMMER_COUNT(code), distances = COGHAMMER_DISTANCES(code);
     check(number == 0 || number == 1 || number == 5 || number == 19, "closest gave another number");
     check(found <= 16 && (number == 0 || found == 0) && (number || count >= 16), "closest found too many");
+    check(code >> 24 == 0 && found <= distances && distances <= COGHAMMER_DISTANCES_MOST, "closest told another number of distances");
+    check(found == 16 ? distances >= 16 : distances == found, "closest stopped too early or too late");
     check(memcmp(before + found, list + found, (count - found) * sizeof before[0]) == 0, "records after the count changed");
 }
 

@@ -111,7 +111,8 @@ pub extern "C" fn coghammer_clear(counters: &mut Counters)
     *counters = discv4::cleared();
 }
 
-// Writes the nodes nearest to the target, nearest first, to the front of the list. The code of the answer number and of how many they are.
+// Writes the nodes nearest to the target, nearest first, to the front of the list. The code of the answer number, of how many they are and of how
+// many distances were worked out.
 #[no_mangle]
 pub extern "C" fn coghammer_closest(list: &mut [Node], table: &[u8], target: &[u8]) -> u32
     ensures { λ r. ⌜ (r ≡ listedCode (listed (now (table .entry)) (now (target .entry)) (length (now (list .entry)))))

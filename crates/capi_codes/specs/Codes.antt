@@ -51,9 +51,9 @@ receivedCode r = outcomeCode (r .outcome)
 
 -- ---- the other answers
 
--- a closest call's: the value is how many nodes the list received
+-- a closest call's: the value is how many nodes the list received, and 256 times how many distances were worked out
 abbrev pub listedCode : Listed → ℕ
-listedCode l = code (l .number) (l .count)
+listedCode l = code (l .number) (l .count + 256 * l .distances)
 
 -- a write's: the value is how many bytes were written
 abbrev pub writtenCode : Written → ℕ

@@ -65,10 +65,12 @@ pub fn outcome_code(outcome: Outcome) -> u32
 }
 
 pub fn listed_code(listed: Listed) -> u32
-    requires { ⌜ listed .count < 2 ^ 24 ⌝ }
+    requires { ⌜ (listed .count < 256) × (listed .distances < 256) ⌝ }
     ensures { λ r. ⌜ r ≡ listedCode listed ⌝ }
 {
-    code(listed.number, listed.count as u32)
+    let count = listed.count as u32;
+    let distances = listed.distances as u32;
+    code(listed.number, count + 256 * distances)
 }
 
 pub fn written_code(written: Written) -> u32

@@ -28,7 +28,7 @@ pub fn closest(list: &mut [Node], table: &[u8], target: &[u8]) -> Listed
 {
     let choice = closest_choice::closest_on(table, target, list.len());
     store_nodes(list, table, choice);
-    closest_nodes::number_and_count(choice)
+    closest_nodes::answer_of(choice)
 }
 
 // The list with the nodes that were chosen at its front.
@@ -51,6 +51,7 @@ fn with_nodes(list: [Node; 16], table: &[u8], choice: Choice) -> [Node; 16]
 pub struct Found {
     pub number: u8,
     pub count: usize,
+    pub distances: usize,
     pub nodes: [Node; 16],
 }
 
@@ -59,11 +60,12 @@ pub fn closest_with(list: [Node; 16], table: &[u8], target: &[u8]) -> Found
     ensures { λ r. ⌜ r ≡ found (now (table .entry)) (now (target .entry)) list ⌝ }
 {
     let choice = closest_choice::closest_on(table, target, 16);
-    let answer = closest_nodes::number_and_count(choice);
+    let answer = closest_nodes::answer_of(choice);
     let nodes = with_nodes(list, table, choice);
     Found {
         number: answer.number,
         count: answer.count,
+        distances: answer.distances,
         nodes,
     }
 }

@@ -22,9 +22,9 @@ use Rattle.table_model.specs.Layout.{offsetOf, bucketAt, bucketsOf}
 use Rattle.table_model.specs.Sound.{tableSound}
 use Rattle.call_history.specs.Model.{closest}
 use Rattle.call_model.specs.Calls.{answerOn}
-use Rattle.closest_nearest.specs.declared.Near.{Near}
 use Rattle.closest_nearest.specs.declared.Nearest.{Nearest}
 use Rattle.closest_nearest.specs.Nearest.{holding}
+use Rattle.closest_order.specs.Taken.{distances}
 use Rattle.closest_table.specs.declared.Chosen.{Chosen}
 use Rattle.closest_table.specs.Closest.{closestIn}
 use Rattle.closest_table.specs.Closest as nearest
@@ -34,7 +34,7 @@ use Rattle.closest_choice.specs.declared.Choice.{Choice}
 -- ---- the choice, by what the chooser found
 
 abbrev none : ℕ → Choice
-none n = record { number = n; nearest = holding [] }
+none n = record { number = n; nearest = holding []; distances = 0 }
 
 module _ (s target : Bytes) (room : ℕ) {hash : Bytes} (eh : hash ≡ keccak256 target) (c : Chosen) (e : c ≡ closestIn s hash) where
   abbrev tests : ℕ
@@ -44,34 +44,40 @@ module _ (s target : Bytes) (room : ℕ) {hash : Bytes} (eh : hash ≡ keccak256
   unfolding closestIn
   is-sound = ap (λ (x : Chosen). x .sound) e ∙ byTest (tableSound s) (λ t. rw t refl) (λ t. rw t refl)
 
-  is-chosen : (n : ℕ) (l : List Near) {r : Choice} → n ≡ tests → l ≡ cond (eqb n 0) (nearest.closest (keccak256 target) (bucketsOf s)) []
-      → r ≡ record { number = n; nearest = holding l } → r ≡ chosen s target room
+  abbrev by-number : ℕ → Choice
+  by-number n = choiceBy n (nearest.closest (keccak256 target) (bucketsOf s)) (distances s (keccak256 target))
+
+  is-chosen : (n : ℕ) {r : Choice} → n ≡ tests → r ≡ by-number n → r ≡ chosen s target room
   unfolding chosen answerOn
-  is-chosen n l en el er =
-      er ∙ ap (λ (x : List Near). record { number = n; nearest = holding x }) el ∙ ap (λ (m : ℕ). choiceBy m (nearest.closest (keccak256 target) (bucketsOf s))) en
+  is-chosen n en er = er ∙ ap by-number en
 
   pub unsound : {r : Choice} → not (c .sound) ≡ true → r ≡ none 1 → r ≡ chosen s target room
-  unsound t er = is-chosen 1 [] (sym (rw (sym is-sound ∙ not-true _ t) refl)) refl er
+  unsound t er = is-chosen 1 (sym (rw (sym is-sound ∙ not-true _ t) refl)) er
 
   module _ (sound : not (c .sound) ≡ false) where
     holds : tableSound s ≡ true
     holds = sym is-sound ∙ not-false _ sound
 
     pub wrong-target : {r : Choice} → (length target ≡ 64 → ⊥) → r ≡ none 5 → r ≡ chosen s target room
-    wrong-target t er = is-chosen 5 [] (sym (rw (holds, ne-eqb _ _ t) refl)) refl er
+    wrong-target t er = is-chosen 5 (sym (rw (holds, ne-eqb _ _ t) refl)) er
 
     pub short-list : {r : Choice} → length target ≡ 64 → room < 16 → r ≡ none 19 → r ≡ chosen s target room
-    short-list n t er = is-chosen 19 [] (sym (rw (holds, eq-eqb _ _ n, lt-ltb room 16 t) refl)) refl er
+    short-list n t er = is-chosen 19 (sym (rw (holds, eq-eqb _ _ n, lt-ltb room 16 t) refl)) er
 
     found : c .nearest ≡ holding (nearest.closest (keccak256 target) (bucketsOf s))
     unfolding closestIn
     found =
         ap (λ (x : Chosen). x .nearest) e ∙ rw holds (ap (λ (l : Bytes). holding (nearest.closest l (bucketsOf s))) eh)
 
-    pub all-chosen : length target ≡ 64 → 16 ≤ room → record { number = 0; nearest = c .nearest } ≡ chosen s target room
+    counted : c .distances ≡ distances s (keccak256 target)
+    unfolding closestIn
+    counted = ap (λ (x : Chosen). x .distances) e ∙ rw holds (ap (distances s) eh)
+
+    pub all-chosen : length target ≡ 64 → 16 ≤ room → record { number = 0; nearest = c .nearest; distances = c .distances } ≡ chosen s target room
     all-chosen n t =
-        is-chosen 0 (nearest.closest (keccak256 target) (bucketsOf s)) (sym (rw (holds, eq-eqb _ _ n, le-ltb room 16 t) refl)) refl
-        (ap (λ (x : Nearest). record { number = 0; nearest = x }) found)
+        is-chosen 0 (sym (rw (holds, eq-eqb _ _ n, le-ltb room 16 t) refl))
+        (ap (λ (x : Nearest). let r : Choice = record { number = 0; nearest = x; distances = c .distances } in r) found
+        ∙ ap (λ (d : ℕ). let r : Choice = record { number = 0; nearest = holding (nearest.closest (keccak256 target) (bucketsOf s)); distances = d } in r) counted)
 
 -- ---- the node of an entry
 

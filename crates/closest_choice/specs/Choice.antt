@@ -17,16 +17,18 @@ use Rattle.call_model.specs.Reading.{reading}
 use Rattle.call_model.specs.Calls.{answerOn}
 use Rattle.closest_nearest.specs.declared.Near.{Near}
 use Rattle.closest_nearest.specs.Nearest.{holding}
+use Rattle.closest_order.specs.Taken.{distances}
 use Rattle.closest_table.specs.Closest as nearest
 use Rattle.closest_choice.specs.declared.Choice.{Choice}
 
 -- nothing is chosen where the call is refused
-abbrev pub choiceBy : ℕ → List Near → Choice
-choiceBy n l = record { number = n; nearest = holding (cond (eqb n 0) l []) }
+abbrev pub choiceBy : ℕ → List Near → ℕ → Choice
+choiceBy n l d = record { number = n; nearest = holding (cond (eqb n 0) l []); distances = cond (eqb n 0) d 0 }
 
--- the answer number, and the entries nearest to the target, nearest first, for a list of `room` records
+-- the answer number, the entries nearest to the target, nearest first, and how many distances were worked out, for a list of `room` records
 unfoldable pub chosen : Bytes → Bytes → ℕ → Choice
-chosen s target room = choiceBy (answerOn reading s (closest target room)) (nearest.closest (keccak256 target) (bucketsOf s))
+chosen s target room =
+    choiceBy (answerOn reading s (closest target room)) (nearest.closest (keccak256 target) (bucketsOf s)) (distances s (keccak256 target))
 
 -- there is an entry with this index, counted from the head, in the bucket in this slot
 abbrev pub isThere : Bytes → ℕ → ℕ → Bool

@@ -8,17 +8,22 @@ use closest_nearest::Nearest;
 use entry::Entry;
 use node::Node;
 
-// The entries nearest to a target, nearest first, or the answer number and none of them.
+// The entries nearest to a target, nearest first, and how many distances were worked out for them; or the answer number and none of them.
 pub struct Choice {
     pub number: u8,
     pub nearest: Nearest,
+    pub distances: usize,
 }
 
 fn none_chosen(number: u8) -> Choice
-    ensures { λ r. ⌜ r ≡ record { number = number; nearest = holding [] } ⌝ }
+    ensures { λ r. ⌜ r ≡ record { number = number; nearest = holding []; distances = 0 } ⌝ }
 {
     let nearest = Nearest::none();
-    Choice { number, nearest }
+    Choice {
+        number,
+        nearest,
+        distances: 0,
+    }
 }
 
 // The entries nearest to a target, for a list of `room` node records.
@@ -37,7 +42,11 @@ pub fn closest_on(table: &[u8], target: &[u8], room: usize) -> Choice
         return none_chosen(19);
     }
     let nearest = chosen.nearest;
-    Choice { number: 0, nearest }
+    Choice {
+        number: 0,
+        nearest,
+        distances: chosen.distances,
+    }
 }
 
 // The node of the entry with this index, counted from the head, in the bucket in this slot; a node of zeros where there is none.

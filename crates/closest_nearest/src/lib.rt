@@ -5,37 +5,20 @@ ghost use Prim.Native.Nat.{_+_, _-_, _≤_, _<_, min};
 ghost use lib.Dec.{leb};
 ghost use lib.ListN.{length, take, drop};
 ghost use Rattle.lists.specs.Lists.{before};
-ghost use Rattle.distance.specs.Distance.{distance};
 ghost use Rattle.closest_nearest.specs.Sort.{insertBy};
 ghost use Rattle.closest_nearest.specs.Nearest.{noNear, farness, holding, held, Ordered};
 
-// An entry by the slot of its bucket and its index there from the head, with the hash of its key.
+// An entry by the slot of its bucket and its index there from the head, with its distance from the target.
 pub struct Near {
     pub slot: usize,
     pub index: usize,
-    pub hash: [u8; 32],
+    pub far: [u8; 32],
 }
 
 // The nearest so far, nearest first; what lies past `count` is `Near::none()`.
 pub struct Nearest {
     pub count: usize,
     pub list: [Near; 16],
-}
-
-// Whether `a` is at most as far from the target as `b`.
-pub fn not_farther(target: [u8; 32], a: [u8; 32], b: [u8; 32]) -> bool
-    ensures { λ r. ⌜ r ≡ leb (distance target a) (distance target b) ⌝ }
-{
-    let mut i = 0;
-    while i < 32 {
-        let x = target[i] ^ a[i];
-        let y = target[i] ^ b[i];
-        if x != y {
-            return x < y;
-        }
-        i += 1;
-    }
-    true
 }
 
 impl Near {
@@ -45,7 +28,7 @@ impl Near {
         Near {
             slot: 0,
             index: 0,
-            hash: [0; 32],
+            far: [0; 32],
         }
     }
 }
@@ -85,16 +68,16 @@ impl Nearest {
     }
 
     // How many of those held are nearer to the target than `x`.
-    fn place(self, target: [u8; 32], x: Near) -> usize
-        requires { ⌜ Ordered target self ⌝ }
-        ensures { λ r. ⌜ r ≡ length (before (λ b. leb (farness target x) (farness target b)) (held self)) ⌝ }
+    fn place(self, x: Near) -> usize
+        requires { ⌜ Ordered self ⌝ }
+        ensures { λ r. ⌜ r ≡ length (before (λ b. leb (farness x) (farness b)) (held self)) ⌝ }
     {
-        let hash = x.hash;
+        let far = x.far;
         let mut k = self.count;
         while 0 < k {
             let b = self.list[k - 1];
-            let other = b.hash;
-            if !not_farther(target, hash, other) {
+            let other = b.far;
+            if !closest_distance::not_farther(far, other) {
                 return k;
             }
             k -= 1;
@@ -103,11 +86,11 @@ impl Nearest {
     }
 
     // `x` takes its place, before those that are as far; a seventeenth falls off.
-    pub fn insert(self, target: [u8; 32], x: Near) -> Nearest
-        requires { ⌜ Ordered target self ⌝ }
-        ensures { λ r. ⌜ r ≡ holding (take 16 (insertBy (farness target) x (held self))) ⌝ }
+    pub fn insert(self, x: Near) -> Nearest
+        requires { ⌜ Ordered self ⌝ }
+        ensures { λ r. ⌜ r ≡ holding (take 16 (insertBy farness x (held self))) ⌝ }
     {
-        let k = self.place(target, x);
+        let k = self.place(x);
         if 16 <= k {
             return self;
         }

@@ -10,6 +10,7 @@ use lib.ListN.{length, take, drop, length-take, length-map}
 use Rattle.octets.specs.Octets.{Bytes}
 use Rattle.lists.proofs.Laws.{byTest, passed}
 use Rattle.keccak.specs.Sponge.{keccak256}
+use Rattle.keccak.proofs.Laws.{keccak256-length, keccak256-bytes}
 use Rattle.node.specs.declared.Node.{Node}
 use Rattle.table_model.specs.Layout.{bucketsOf}
 use Rattle.table_model.specs.Sound.{tableSound}
@@ -20,6 +21,7 @@ use Rattle.closest_nearest.proofs.Sort.{length-sort}
 use Rattle.closest_nearest.proofs.Held.{held-holding}
 use Rattle.closest_table.specs.Closest.{candidatesFrom}
 use Rattle.closest_table.specs.Closest as nearest
+use Rattle.closest_table.proofs.Most.{at-most-31}
 use Rattle.call_history.specs.Model.{closest}
 use Rattle.call_model.specs.Reading.{reading}
 use Rattle.call_model.specs.Calls.{refusalsOn, answerOn}
@@ -29,7 +31,7 @@ use Rattle.entry.specs.Nodes.{nodeOf}
 use Rattle.closest_choice.specs.Choice.{chosen}
 use Rattle.closest_choice.proofs.Nodes.{closest-nodes}
 use Rattle.closest_nodes.specs.declared.Listed.{Listed}
-use Rattle.closest_nodes.specs.Listing.{entriesOf, distanceTo, closestNodes, closestNumber, nodesFor, listed, withFront, ClosestKept, numberAndCount, nodeAt, withChosen}
+use Rattle.closest_nodes.specs.Listing.{entriesOf, distanceTo, closestNodes, closestNumber, nodesFor, distancesFor, listed, withFront, ClosestKept, answerOf, nodeAt, withChosen}
 
 -- "the min(16, seated) seated nodes"
 pub count-of-closest : (s target : Bytes) → length (closestNodes s target) ≡ min 16 (length (entriesOf s))
@@ -57,17 +59,26 @@ module _ (s target : Bytes) (room : ℕ) where
   unfolding nearest.closest
   few =
       byTest (eqb number 0)
-      (λ t. let sorted = sortBy (farness (keccak256 target)) (candidatesFrom 0 (bucketsOf s)) in
+      (λ t. let sorted = sortBy farness (candidatesFrom (keccak256 target) 0 (bucketsOf s)) in
       let most : length (take 16 sorted) ≤ 16 = omega (arith, length-take 16 sorted) in
       rw t (most, omega (arith, most, accepted (eqb-true number 0 t) .1)))
       (λ t. rw t (omega arith, omega arith))
 
   their-nodes : map (nodeAt s) found ≡ nodesFor s target room
   unfolding nodesFor closestNodes
-  their-nodes = byTest (eqb number 0) (λ t. rw t (closest-nodes s (accepted (eqb-true number 0 t) .0) (keccak256 target))) (λ t. rw t refl)
+  their-nodes =
+      byTest (eqb number 0)
+      (λ t. rw t (closest-nodes s (accepted (eqb-true number 0 t) .0) (keccak256 target) (keccak256-length target) (keccak256-bytes target)))
+      (λ t. rw t refl)
 
   how-many : length found ≡ length (nodesFor s target room)
   how-many = sym (length-map found (nodeAt s)) ∙ ap length their-nodes
+
+  -- "never more than 31"
+  pub few-distances : distancesFor s target room ≤ 31
+  unfolding distancesFor
+  few-distances =
+      byTest (eqb number 0) (λ t. rw t (at-most-31 s (accepted (eqb-true number 0 t) .0) (keccak256 target))) (λ t. rw t (omega arith))
 
   module _ (choice : Choice) (e : choice ≡ chosen s target room) where
     count-is : choice .nearest .count ≡ length found
@@ -81,9 +92,11 @@ module _ (s target : Bytes) (room : ℕ) where
     pub fits : (choice .nearest .count ≤ 16) × (choice .nearest .count ≤ room)
     fits = (omega (arith, count-is, few .0), omega (arith, count-is, few .1))
 
-    pub answers : numberAndCount choice ≡ listed s target room
-    unfolding chosen
-    answers = ap numberAndCount e ∙ ap (λ (n : ℕ). let r : Listed = record { number = number; count = n } in r) how-many
+    pub answers : answerOf choice ≡ listed s target room
+    unfolding chosen distancesFor
+    answers =
+        ap answerOf e
+        ∙ ap (λ (n : ℕ). let r : Listed = record { number = number; count = n; distances = distancesFor s target room } in r) how-many
 
     pub writes : (list : List Node) → withChosen s choice list ≡ withFront (nodesFor s target room) list
     writes list =
@@ -96,5 +109,6 @@ unfolding nodesFor
 closest-kept =
     record {
       number-listed = λ s target room. on-any-bytes reading .number-listed s (closest target room);
+      at-most-31 = few-distances;
       refused-unchanged = λ s target list h. rw (ne-eqb (closestNumber s target (length list)) 0 h) refl;
     }

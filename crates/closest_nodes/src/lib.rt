@@ -1,14 +1,16 @@
 // The nodes that a closest call lists: each of those chosen, and the answer.
 ghost use mathlib.Core.Path.{_≡_};
 ghost use Prim.Native.Nat.{_<_};
-ghost use Rattle.closest_nodes.specs.Listing.{numberAndCount, chosenNode};
+ghost use Rattle.closest_nodes.specs.Listing.{answerOf, chosenNode};
 use closest_choice::Choice;
 use node::Node;
 
-// The answer number of a closest call, and how many nodes the list received: none where the call is refused.
+// The answer number of a closest call, how many nodes the list received, and how many distances were worked out: none where the call is
+// refused.
 pub struct Listed {
     pub number: u8,
     pub count: usize,
+    pub distances: usize,
 }
 
 // The node of the i-th entry that was chosen.
@@ -22,11 +24,12 @@ pub fn chosen_node(table: &[u8], choice: Choice, i: usize) -> Node
 }
 
 // What a closest call answers.
-pub fn number_and_count(choice: Choice) -> Listed
-    ensures { λ r. ⌜ r ≡ numberAndCount choice ⌝ }
+pub fn answer_of(choice: Choice) -> Listed
+    ensures { λ r. ⌜ r ≡ answerOf choice ⌝ }
 {
     Listed {
         number: choice.number,
         count: choice.nearest.count,
+        distances: choice.distances,
     }
 }

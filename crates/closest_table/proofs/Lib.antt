@@ -1,4 +1,6 @@
 pub mod Entries
-pub mod Walk
 pub mod Take
 pub mod Nearest
+pub mod Walk
+pub mod Ends
+pub mod Most

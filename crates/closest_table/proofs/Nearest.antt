@@ -4,19 +4,21 @@ use mathlib.Core.List.{List, [], _∷_, map, map-append, flatMap}
 use Prim.Native.Nat.{ℕ, suc, _+_, _<_}
 use native.Mathlib.Omega.{arith}
 use lib.ListN.{length, getD, take}
-use Rattle.octets.specs.Octets.{Bytes}
+use Rattle.octets.specs.Octets.{Bytes, IsBytes, number}
 use Rattle.lists.specs.Lists.{All}
 use Rattle.lists.proofs.Laws.{All-append, All-imp}
 use Rattle.keccak.specs.Sponge.{keccak256}
+use Rattle.keccak.proofs.Laws.{keccak256-length, keccak256-bytes}
 use Rattle.distance.specs.Distance.{distance}
 use Rattle.entry.specs.declared.Entry.{Entry}
 use Rattle.entry.specs.Layout.{noEntry}
 use Rattle.bucket_model.specs.Contents.{Contents, noContents}
+use Rattle.closest_distance.proofs.Bytes.{number-far}
 use Rattle.closest_nearest.specs.declared.Near.{Near}
 use Rattle.closest_nearest.specs.Sort.{sortBy}
 use Rattle.closest_nearest.specs.Nearest.{farness}
 use Rattle.closest_nearest.proofs.Sort.{All-take, All-sort, map-take, sort-map}
-use Rattle.closest_table.specs.Closest.{candidatesOf, candidatesFrom, closest}
+use Rattle.closest_table.specs.Closest.{farOf, candidatesOf, candidatesFrom, closest}
 
 -- ---- the rest of a list from an index on
 
@@ -47,25 +49,29 @@ module _ {A : Type 0} (d : A) (whole : List A) where
 abbrev pub entryOf : List Contents → Near → Entry
 entryOf bs n = getD (getD bs (n .slot) noContents .entries) (n .index) noEntry
 
--- there is one, and the hash is its key's
-pub record Names (bs : List Contents) (n : Near) : Type 0 where
+-- there is one, and the distance is its own
+pub record Names (target : Bytes) (bs : List Contents) (n : Near) : Type 0 where
   pub slot-within : n .slot < length bs
   pub index-within : n .index < length (getD bs (n .slot) noContents .entries)
-  pub its-hash : n .hash ≡ keccak256 (entryOf bs n .key)
+  pub its-far : n .far ≡ farOf target (entryOf bs n)
 
-module _ (bs : List Contents) where
+-- the number of an entry's distance
+pub number-of-far : (target : Bytes) → length target ≡ 32 → IsBytes target → (e : Entry) → number (farOf target e) ≡ distance target (keccak256 (e .key))
+number-of-far target n bs e = number-far target (keccak256 (e .key)) n (keccak256-length (e .key)) bs (keccak256-bytes (e .key))
+
+module _ (target : Bytes) (bs : List Contents) where
   module _ (slot : ℕ) (k : slot < length bs) where
     abbrev entries : List Entry
     entries = getD bs slot noContents .entries
 
-    names-of : (i : ℕ) (es : List Entry) → RestAt noEntry entries i es → All (Names bs) (candidatesOf slot i es)
+    names-of : (i : ℕ) (es : List Entry) → RestAt noEntry entries i es → All (Names target bs) (candidatesOf target slot i es)
     unfolding candidatesOf
     names-of i [] r = tt
     names-of i (e ∷ es) r =
-        let hash = ap (λ (x : Entry). keccak256 (x .key)) (sym (here noEntry entries i e es r)) in
-        (record { slot-within = k; index-within = within noEntry entries i e es r; its-hash = hash }, names-of (suc i) es (next noEntry entries i e es r))
+        let far = ap (farOf target) (sym (here noEntry entries i e es r)) in
+        (record { slot-within = k; index-within = within noEntry entries i e es r; its-far = far }, names-of (suc i) es (next noEntry entries i e es r))
 
-    entries-of : (i : ℕ) (es : List Entry) → RestAt noEntry entries i es → map (entryOf bs) (candidatesOf slot i es) ≡ es
+    entries-of : (i : ℕ) (es : List Entry) → RestAt noEntry entries i es → map (entryOf bs) (candidatesOf target slot i es) ≡ es
     unfolding candidatesOf
     entries-of i [] r = refl
     entries-of i (e ∷ es) r = cc (here noEntry entries i e es r, entries-of (suc i) es (next noEntry entries i e es r))
@@ -74,41 +80,43 @@ module _ (bs : List Contents) where
     its-entries : RestAt noEntry (getD bs slot noContents .entries) 0 (b .entries)
     its-entries = rw (here noContents bs slot b rest r) (all-rest noEntry (b .entries))
 
-  names-from : (slot : ℕ) (rest : List Contents) → RestAt noContents bs slot rest → All (Names bs) (candidatesFrom slot rest)
+  names-from : (slot : ℕ) (rest : List Contents) → RestAt noContents bs slot rest → All (Names target bs) (candidatesFrom target slot rest)
   unfolding candidatesFrom
   names-from slot [] r = tt
   names-from slot (b ∷ rest) r =
-      All-append (Names bs) (candidatesOf slot 0 (b .entries)) (candidatesFrom (suc slot) rest)
+      All-append (Names target bs) (candidatesOf target slot 0 (b .entries)) (candidatesFrom target (suc slot) rest)
       (names-of slot (within noContents bs slot b rest r) 0 (b .entries) (its-entries slot b rest r))
       (names-from (suc slot) rest (next noContents bs slot b rest r))
 
   entries-from : (slot : ℕ) (rest : List Contents) → RestAt noContents bs slot rest
-      → map (entryOf bs) (candidatesFrom slot rest) ≡ flatMap (λ b. b .entries) rest
+      → map (entryOf bs) (candidatesFrom target slot rest) ≡ flatMap (λ b. b .entries) rest
   unfolding candidatesFrom flatMap
   entries-from slot [] r = refl
   entries-from slot (b ∷ rest) r =
       let first = entries-of slot (within noContents bs slot b rest r) 0 (b .entries) (its-entries slot b rest r) in
       let others = entries-from (suc slot) rest (next noContents bs slot b rest r) in
-      map-append (entryOf bs) (candidatesOf slot 0 (b .entries)) (candidatesFrom (suc slot) rest) ∙ cc (first, others)
+      map-append (entryOf bs) (candidatesOf target slot 0 (b .entries)) (candidatesFrom target (suc slot) rest) ∙ cc (first, others)
 
-  module _ (target : Bytes) where
-    candidates : All (Names bs) (candidatesFrom 0 bs)
-    candidates = names-from 0 bs (all-rest noContents bs)
+  candidates : All (Names target bs) (candidatesFrom target 0 bs)
+  candidates = names-from 0 bs (all-rest noContents bs)
 
-    -- each of those chosen names an entry
-    pub closest-name : All (Names bs) (closest target bs)
-    unfolding closest
-    closest-name =
-        All-take (Names bs) 16 (sortBy (farness target) (candidatesFrom 0 bs)) (All-sort (farness target) (Names bs) (candidatesFrom 0 bs) candidates)
+  -- each of those chosen names an entry
+  pub closest-name : All (Names target bs) (closest target bs)
+  unfolding closest
+  closest-name =
+      let all : List Near = candidatesFrom target 0 bs in
+      All-take (Names target bs) 16 (sortBy farness all) (All-sort farness (Names target bs) all candidates)
 
-    -- these entries
-    pub closest-entries : map (entryOf bs) (closest target bs)
-        ≡ take 16 (sortBy (λ e. distance target (keccak256 (e .key))) (flatMap (λ b. b .entries) bs))
-    unfolding closest
-    closest-entries =
-        let far : Entry → ℕ = λ e. distance target (keccak256 (e .key)) in
-        map-take (entryOf bs) 16 (sortBy (farness target) (candidatesFrom 0 bs))
-        ∙ ap (take 16)
-        (sort-map (farness target) far (entryOf bs) (candidatesFrom 0 bs)
-        (All-imp (Names bs) (λ n. farness target n ≡ far (entryOf bs n)) (λ n h. ap (distance target) (h .its-hash)) (candidatesFrom 0 bs) candidates)
-        ∙ ap (sortBy far) (entries-from 0 bs (all-rest noContents bs)))
+  -- these entries, where the target is a hash
+  pub closest-entries : length target ≡ 32 → IsBytes target
+      → map (entryOf bs) (closest target bs) ≡ take 16 (sortBy (λ e. distance target (keccak256 (e .key))) (flatMap (λ b. b .entries) bs))
+  unfolding closest
+  closest-entries size bytes =
+      let far : Entry → ℕ = λ e. distance target (keccak256 (e .key)) in
+      let all : List Near = candidatesFrom target 0 bs in
+      let same : (n : Near) → Names target bs n → farness n ≡ far (entryOf bs n) =
+      λ n h. ap number (h .its-far) ∙ number-of-far target size bytes (entryOf bs n) in
+      map-take (entryOf bs) 16 (sortBy farness all)
+      ∙ ap (take 16)
+      (sort-map farness far (entryOf bs) all (All-imp (Names target bs) (λ n. farness n ≡ far (entryOf bs n)) same all candidates)
+      ∙ ap (sortBy far) (entries-from 0 bs (all-rest noContents bs)))

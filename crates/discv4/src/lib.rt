@@ -2,8 +2,8 @@
 
 // ---- the table's calls
 // `init` makes lent bytes a fresh table. `datagram`, `ping_sent` and `sweep` count their answers in lent counters, `burst` those of its
-// datagrams, `closest` fills a lent list. Callers inside the repository have forms that take counters or list by value: crates counted_datagram,
-// counted_ping_sent, counted_sweep, counted_burst and closest.
+// datagrams, `closest` fills a lent list and also tells how many distances were worked out. Callers inside the repository have forms that take
+// counters or list by value: crates counted_datagram, counted_ping_sent, counted_sweep, counted_burst and closest.
 
 pub use closest::closest;
 pub use closest_nodes::Listed;

@@ -124,7 +124,6 @@ fn print_records(nodes: [Node; 16]) {
 
 // The first `count` nodes of a list.
 fn print_nodes(count: usize, nodes: [Node; 16]) {
-    print_number(count as u64);
     let mut i: usize = 0;
     while i < 16 {
         let node = nodes[i];
@@ -136,9 +135,11 @@ fn print_nodes(count: usize, nodes: [Node; 16]) {
 }
 
 // The answer of a closest call, and the list after it.
-pub fn print_listed(number: u8, count: usize, nodes: [Node; 16]) {
+pub fn print_listed(number: u8, count: usize, distances: usize, nodes: [Node; 16]) {
     print_answer(number);
     if number == 0 {
+        print_number(count as u64);
+        print_number(distances as u64);
         print_nodes(count, nodes);
     }
     print_records(nodes);

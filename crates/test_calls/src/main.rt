@@ -17,8 +17,8 @@
 //
 // The line printed is the answer number (kind 6: the count; kinds 5 and 7: 0), what the answer says besides, and the Keccak-256 of the
 // lent memory after the call, parted by tabs. An accepted datagram says what the replay prints, with the whole node at the head behind
-// `wait`. An accepted closest call says how many nodes there are and of each the first 8 bytes of the key, the address and the ports; and
-// every closest call the Keccak-256 of all sixteen records after it. At the end stand the 22 counts.
+// `wait`. An accepted closest call says how many nodes there are, how many distances were worked out, and of each node the first 8 bytes of the
+// key, the address and the ports; and every closest call the Keccak-256 of all sixteen records after it. At the end stand the 22 counts.
 ghost use Prim.Native.Nat.{_≤_};
 ghost use lib.ListN.{length};
 
@@ -130,7 +130,7 @@ fn run_closest(table: &[u8], s: &[u8]) {
     let node = filler();
     let listed = closest::closest_with([node; 16], table, key(s));
     let nodes = listed.nodes;
-    answers::print_listed(listed.number, listed.count, nodes);
+    answers::print_listed(listed.number, listed.count, listed.distances, nodes);
 }
 
 // Runs a case on the lent memory, and returns the counters after it.

@@ -148,6 +148,16 @@ pub struct Head {
     pub ping_out: Option<MonotonicMillis>,
 }
 
+/// What a closest call tells.
+#[derive(Clone, Copy, Debug, PartialEq, Eq)]
+pub struct Listed {
+    /// The nodes that the list received.
+    pub count: usize,
+    /// The distances to the target that were worked out, at most 31: one for each node seated in the buckets
+    /// that were taken. Buckets are taken nearest first, until sixteen nodes are gathered.
+    pub distances: usize,
+}
+
 /// The numbers of a printout's first row.
 #[derive(Clone, Copy, Debug, PartialEq, Eq)]
 pub struct State {
@@ -285,16 +295,17 @@ impl Table {
     }
 
     /// The nodes nearest to the target, nearest first, written to the front of a list of at least sixteen
-    /// (else 19); how many they are.
-    pub fn closest_in(&self, list: &mut [Node], target: &[u8]) -> Result<usize, Number> {
-        valued(sys::closest(list, &self.bytes, target)).map(|count| count as usize)
+    /// (else 19).
+    pub fn closest_in(&self, list: &mut [Node], target: &[u8]) -> Result<Listed, Number> {
+        let value = valued(sys::closest(list, &self.bytes, target))?;
+        Ok(Listed { count: value as usize % 256, distances: value as usize / 256 })
     }
 
     /// The at most sixteen nodes nearest to the target, nearest first.
     pub fn closest(&self, target: &[u8]) -> Result<Vec<Node>, Number> {
         let mut list = vec![Node::EMPTY; 16];
-        let count = self.closest_in(&mut list, target)?;
-        list.truncate(count);
+        let listed = self.closest_in(&mut list, target)?;
+        list.truncate(listed.count);
         Ok(list)
     }
 

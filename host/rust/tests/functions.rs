@@ -3,8 +3,8 @@
 use std::net::SocketAddr;
 
 use coghammer::{
-    keccak256, write, Accepted, Counters, Endpoint, Held, MonotonicMillis, Node, Number, Packet, Rank,
-    Standing, State, Table, UnixSeconds,
+    keccak256, write, Accepted, Counters, Endpoint, Held, Listed, MonotonicMillis, Node, Number, Packet,
+    Rank, Standing, State, Table, UnixSeconds,
 };
 
 const OWN: [u8; 64] = [1; 64];
@@ -169,6 +169,9 @@ fn one_peer() {
         format!("seat\t{}\t1\t0202020202020202\tc0000207\t30303\t30304\t600\t600\tquiet", waiting.distance);
     assert_eq!(table.printout(), Ok(format!("table\t16\t600\t1\t0\n{row}\n")));
     assert_eq!(table.closest(&OWN), Ok(vec![node]));
+    let mut list = [Node::EMPTY; 17];
+    assert_eq!(table.closest_in(&mut list, &OWN), Ok(Listed { count: 1, distances: 1 }));
+    assert_eq!(list[..2], [node, Node::EMPTY]);
     assert_eq!(table.closest(&OWN[1..]), Err(Number(5)));
     assert_eq!(table.closest_in(&mut [Node::EMPTY; 15], &OWN), Err(Number(19)));
 

@@ -10,7 +10,7 @@ use coghammer::{
     Accepted, Counters, Held, MonotonicMillis, Node, Number, Packet, Rank, Standing, State, Table,
     UnixSeconds,
 };
-use common::{accepted, compare_reading, counted, fields, head, head_of, node, told};
+use common::{accepted, compare_reading, counted, fields, head, head_of, listed, node, told};
 use reference::bucket::{Bucket, PongOutcome, Position};
 use reference::calls::{Call, Reply};
 use reference::generator::calls::Calls;
@@ -108,13 +108,13 @@ impl Pair {
         let untouched = Node { key: [0xee; 64], ..Node::EMPTY };
         let mut list = vec![untouched; room];
         let ours = told(self.ours.closest_in(&mut list, target));
-        let mut wanted: Vec<Node> = reply.iter().flatten().map(node).collect();
-        assert_eq!(ours, reply.as_ref().map(Vec::len).map_err(|number| *number));
+        let mut wanted: Vec<Node> = reply.iter().flat_map(|(nodes, _)| nodes).map(node).collect();
+        assert_eq!(ours, reply.as_ref().map(listed).map_err(|number| *number));
         wanted.resize(room, untouched);
         assert_eq!(list, wanted, "closest to {}", reference::hex(target));
         if room == 16 {
             let found = self.ours.closest(target).map(|list| list.len());
-            assert_eq!(told(found), ours, "closest in a Vec");
+            assert_eq!(told(found), ours.map(|listed| listed.count), "closest in a Vec");
         }
     }
 

@@ -7,7 +7,7 @@ mod common;
 use std::collections::BTreeMap;
 
 use coghammer::{Counters, MonotonicMillis, Node, Number, Table, UnixSeconds};
-use common::{accepted, counted, node, told};
+use common::{accepted, counted, listed, node, told};
 use reference::calls::{Call, Reply};
 use reference::generator::calls::Calls;
 use reference::generator::damage::{damage, Store, KINDS};
@@ -41,8 +41,8 @@ fn call(memory: &mut Vec<u8>, call: &Call) -> u8 {
         (Call::Closest { target, room }, Reply::Closest(reply)) => {
             let mut list = vec![Node::EMPTY; *room];
             let answer = ours.closest_in(&mut list, target);
-            let mut wanted: Vec<Node> = reply.iter().flatten().map(node).collect();
-            assert_eq!(told(answer), reply.as_ref().map(Vec::len).map_err(|number| *number));
+            assert_eq!(told(answer), reply.as_ref().map(listed).map_err(|number| *number));
+            let mut wanted: Vec<Node> = reply.iter().flat_map(|(nodes, _)| nodes).map(node).collect();
             wanted.resize(*room, Node::EMPTY);
             assert_eq!(list, wanted, "{call:?}");
         }

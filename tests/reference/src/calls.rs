@@ -53,8 +53,8 @@ pub enum Reply {
     Datagram(Result<Accepted, Number>),
     PingSent(Result<(), Number>),
     Sweep(Result<(), Number>),
-    /// The records written, nearest first.
-    Closest(Result<Vec<Node>, Number>),
+    /// The records written, nearest first, and the number of distances worked out.
+    Closest(Result<(Vec<Node>, usize), Number>),
 }
 
 impl Call {
@@ -71,7 +71,7 @@ impl Call {
                 let empty = Endpoint { address: Vec::new(), udp: 0, tcp: 0 };
                 let mut list = vec![Node { endpoint: empty, key: Vec::new() }; *room];
                 let answer = table.closest(&mut list, target);
-                Reply::Closest(answer.map(|count| list[..count].to_vec()))
+                Reply::Closest(answer.map(|listed| (list[..listed.count].to_vec(), listed.distances)))
             }
         }
     }

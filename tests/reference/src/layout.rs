@@ -6,7 +6,7 @@ use crate::bucket::{Bucket, Entry, PingState, ENTRIES, REPLACEMENTS};
 use crate::calls::{Call, Reply};
 use crate::keccak::keccak256;
 use crate::packet::{Endpoint, Node};
-use crate::table::{Counters, Table};
+use crate::table::{Counters, Listed, Table};
 use crate::Number;
 
 pub const HEADER: usize = 512;
@@ -201,6 +201,6 @@ pub fn run(memory: &mut [u8], counters: &mut Counters, call: &Call) -> Reply {
 }
 
 /// A closest call on a lent list. It "takes no clock, changes no table byte" and isn't counted.
-pub fn closest(memory: &[u8], list: &mut [Node], target: &[u8]) -> Result<usize, Number> {
+pub fn closest(memory: &[u8], list: &mut [Node], target: &[u8]) -> Result<Listed, Number> {
     read(memory).ok_or(1)?.closest(list, target)
 }

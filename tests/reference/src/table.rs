@@ -25,6 +25,13 @@ pub struct Accepted {
     pub outcome: Outcome,
 }
 
+/// What an accepted closest call tells: the records written, and "the number of distances worked out" (C-18).
+#[derive(Clone, Copy, Debug, PartialEq, Eq)]
+pub struct Listed {
+    pub count: usize,
+    pub distances: usize,
+}
+
 /// Document 01's tally: "one count for each number", 0 to 21 (T11), "or 4,294,967,295 if more".
 #[derive(Clone, Debug, Default, PartialEq, Eq)]
 pub struct Counters(pub [u32; 22]);
@@ -270,8 +277,9 @@ impl Table {
 
     /// "a list of sixteen node records that the caller lends (fewer is 19) receives the min(16,
     /// seated) seated nodes nearest to the target, nearest first; equal distances by seat, head
-    /// first. Records after the count are untouched." Not counted.
-    pub fn closest(&self, list: &mut [Node], target: &[u8]) -> Result<usize, Number> {
+    /// first. Records after the count are untouched." Not counted. The list is a plain sort of all that
+    /// are seated; what C-18's walk gathers must begin with the same.
+    pub fn closest(&self, list: &mut [Node], target: &[u8]) -> Result<Listed, Number> {
         let target = keccak256(&check_key(target)?); // 5
         if list.len() < ENTRIES {
             return Err(19);
@@ -280,10 +288,45 @@ impl Table {
         // a stable sort: entries at equal distances stay in the order of their seats
         seated.sort_by_key(|entry| distance(&entry.id, &target));
         seated.truncate(ENTRIES);
+        let gathered: Vec<&Entry> = self
+            .taken(&target)
+            .iter()
+            .flat_map(|index| {
+                let mut entries: Vec<&Entry> = self.buckets[*index].entries.iter().collect();
+                entries.sort_by_key(|entry| distance(&entry.id, &target));
+                entries
+            })
+            .collect();
+        assert!(gathered.iter().take(ENTRIES).eq(&seated), "C-18: \"The list must stay what it is today.\"");
         for (record, entry) in list.iter_mut().zip(&seated) {
             *record = entry.node();
         }
-        Ok(seated.len())
+        Ok(Listed { count: seated.len(), distances: gathered.len() })
+    }
+
+    /// C-18's walk over the buckets: "those numbered by the set bits of own hash XOR target hash, highest
+    /// first, then by its clear bits, lowest first; stop after the first whole bucket at which 16 or more
+    /// nodes are gathered .. Kept buckets only." The indices of those taken.
+    pub fn taken(&self, target: &[u8; 32]) -> Vec<usize> {
+        let mut bits = distance(&self.own, target);
+        let (mut set, mut clear) = (Vec::new(), Vec::new());
+        for number in (0..256).rev() {
+            if bits[0] >= 128 { &mut set } else { &mut clear }.push(number);
+            for i in 0..32 {
+                bits[i] = bits[i] << 1 | bits.get(i + 1).map_or(0, |next| next >> 7);
+            }
+        }
+        clear.reverse();
+        let (mut taken, mut nodes) = (Vec::new(), 0);
+        for number in [set, clear].concat() {
+            let Some(index) = (number + self.buckets.len()).checked_sub(256) else { continue };
+            nodes += self.buckets[index].entries.len();
+            taken.push(index);
+            if nodes >= 16 {
+                break;
+            }
+        }
+        taken
     }
 
     // ------------------------------------------------------------------------------------ the tests

@@ -33,8 +33,9 @@ fn check(calls: &mut Calls, mut table: Table, count: usize) {
         if now.is_some() {
             counted[usize::from(reply.number())] += 1;
         }
-        if let (Call::Closest { target, .. }, Reply::Closest(Ok(list))) = (&call, &reply) {
+        if let (Call::Closest { target, .. }, Reply::Closest(Ok((list, distances)))) = (&call, &reply) {
             check_closest(&table, target, &list.iter().map(|node| &node.key[..]).collect::<Vec<_>>());
+            assert!(*distances <= 31 && *distances >= list.len());
         }
     }
     assert_eq!(counters.0, counted);

@@ -4,6 +4,7 @@ mod common;
 
 use common::*;
 use reference::bucket::PingState;
+use reference::keccak::keccak256;
 use reference::packet::{Endpoint, Node};
 use reference::table::*;
 
@@ -305,17 +306,58 @@ fn closest() {
     assert_eq!(table.closest(&mut list[..15], &[0; 63]), Err(5));
     assert_eq!(table.closest(&mut list[..15], &OWN), Err(19));
     // the own key as target: the nearer bucket first
-    assert_eq!(table.closest(&mut list, &OWN), Ok(16));
+    assert_eq!(table.closest(&mut list, &OWN), Ok(Listed { count: 16, distances: 18 }));
     assert!(near.iter().all(|key| list[..2].iter().any(|node| node.key == key)));
     assert_eq!(list[16..], [blank.clone(), blank.clone()]);
     // a node is nearest to itself; waiting ones aren't listed
-    assert_eq!(table.closest(&mut list, &keys[5]), Ok(16));
+    assert_eq!(table.closest(&mut list, &keys[5]), Ok(Listed { count: 16, distances: 16 }));
     assert_eq!(list[0].key, keys[5]);
     table.closest(&mut list, &keys[16]).unwrap();
     assert!(list.iter().all(|node| node.key != keys[16]));
     // fewer than sixteen: the others untouched
     let fresh = Table::init(16, &OWN).unwrap();
     let before = list.clone();
-    assert_eq!(fresh.closest(&mut list, &OWN), Ok(0));
+    assert_eq!(fresh.closest(&mut list, &OWN), Ok(Listed { count: 0, distances: 0 }));
     assert_eq!(list, before);
+}
+
+/// C-18: which buckets are taken, and how many distances are worked out.
+#[test]
+fn closest_takes_buckets_in_order() {
+    let mut log = Log::new();
+    let blank = Node { endpoint: Endpoint { address: vec![], udp: 0, tcp: 0 }, key: vec![] };
+    let counts = |log: &Log, target: &[u8; 64]| {
+        let table = log.replay.table.as_ref().unwrap();
+        let listed = table.closest(&mut vec![blank.clone(); 16], target).unwrap();
+        (table.taken(&keccak256(target)).len(), listed.count, listed.distances)
+    };
+    let [far, near, nearer] = [keys(255, 16), keys(254, 15), keys(251, 3)];
+    // nothing seated, then nine in all: every kept bucket is taken
+    assert_eq!(counts(&log, &OWN), (16, 0, 0));
+    for key in &near[..9] {
+        log.meet(1, key);
+    }
+    assert_eq!(counts(&log, &OWN), (16, 9, 9));
+    for key in near[9..].iter().chain(&far) {
+        log.meet(1, key);
+    }
+    // the own key as target: rising; 15 in bucket 254, then 16 in 255
+    assert_eq!(counts(&log, &OWN), (16, 16, 31));
+    // bit 255 is set: sixteen in the first bucket, and no other is taken
+    assert_eq!(counts(&log, &far[0]), (1, 16, 16));
+    // bit 254 is the highest that is set: 254 first, then lower set bits, clear ones rising, 255 last
+    assert_eq!(counts(&log, &near[0]), (16, 16, 31));
+    for key in &nearer {
+        log.meet(1, key);
+    }
+    // three in bucket 251 and 15 in 254 are enough: 240 to 254 for the own key
+    assert_eq!(counts(&log, &OWN), (15, 16, 18));
+    // kept buckets only: of three, none is numbered by a set bit, so 253, 254, 255
+    let mut small = Table::init(3, &OWN).unwrap();
+    small.own = [0; 32];
+    let mut low = [0; 32];
+    low[31] = 0xff;
+    assert_eq!(small.taken(&low), [0, 1, 2]);
+    low[0] = 0xa0;
+    assert_eq!(small.taken(&low), [2, 0, 1]);
 }

@@ -42,7 +42,7 @@ use Rattle.node.proofs.Node as TN
 use Rattle.closest_choice.specs.Choice.{chosen}
 use Rattle.closest_nodes.specs.Listing.{listed, listAfter}
 use Rattle.closest_nodes.specs.declared.Listed.{Listed}
-use Rattle.closest_nodes.proofs.Chosen.{fits, answers}
+use Rattle.closest_nodes.proofs.Chosen.{fits, few-distances, answers}
 use Rattle.closest_nodes.proofs.Listed as TL
 use Rattle.closest_nodes.proofs.Listed.Laws as TL′
 use Rattle.closest.proofs.closest as callee
@@ -59,10 +59,12 @@ use Rattle.capi.proofs.coghammer_closest as self
 use Rattle.capi.proofs.coghammer_closest.Statement as stated
 use Rattle.capi.proofs.coghammer_closest.Code as code
 
--- what `listed_code` requires: at most sixteen nodes are listed
-few : (s target : Bytes) (room : ℕ) (r : Listed) → r ≡ listed s target room → r .count < 2 ^ 24
-few s target room r e =
-    omega (arith, fits s target room (chosen s target room) refl .0, ap (λ (l : Listed). l .count) (e ∙ sym (answers s target room (chosen s target room) refl)))
+-- what `listed_code` requires: at most sixteen nodes are listed, and at most 31 distances are worked out
+few : (s target : Bytes) (room : ℕ) (r : Listed) → r ≡ listed s target room → (r .count < 256) × (r .distances < 256)
+few s target room r e = (
+  omega (arith, fits s target room (chosen s target room) refl .0, ap (λ (l : Listed). l .count) (e ∙ sym (answers s target room (chosen s target room) refl))),
+  omega (arith, few-distances s target room, ap (λ (l : Listed). l .distances) e),
+)
 
 -- the parameters' types
 abbrev Params : Lfts 3 → List RattleType
@@ -122,7 +124,7 @@ module _ {M : Type 1} (𝓤 : URA M) (H : Heap 𝓤) (A : Atoms 𝓤) (W : Given
         -- [what the answer owns; the tokens; what says the last records; _6; …]
         land ! (from ! (stop !)) (init ! 7 refl (LS.lawful TL.the-type TL′.the-laws 𝓤 H A W .typed r _ is .0)) $
         -- _0 = listed_code(_4)
-        calls-plain ! fm (to-tell r v) (known-tell r v) (id⊢ 𝓤 _) (tell-made r v is) (factI 𝓤 (r .count < 2 ^ 24) (emp 𝓤) (few (a .1 .0 .now) (a .1 .1 .0 .now) (length (a .0 .now)) r (e .0))) (λ n _. n ≡ listedCode r) (λ n _. id⊢ 𝓤 _)
+        calls-plain ! fm (to-tell r v) (known-tell r v) (id⊢ 𝓤 _) (tell-made r v is) (factI 𝓤 ((r .count < 256) × (r .distances < 256)) (emp 𝓤) (few (a .1 .0 .now) (a .1 .1 .0 .now) (length (a .0 .now)) r (e .0))) (λ n _. n ≡ listedCode r) (λ n _. id⊢ 𝓤 _)
         (and-then ! (load ! (from ! (stop !)) (look ! 8 refl)) (no-more !)) (λ v′ n _ e′ is′.
         -- [what the code owns; what the answer owns; the tokens; what says the last records; _6; …]
         land ! (from ! (stop !)) (init ! 16 refl (uint-lawful 𝓤 H A W w32 .typed n _ is′ .0)) $

@@ -1,4 +1,4 @@
--- `closest::closest` meets its contract: a walk of its MIR, by hand. `closest_on`, which is covered, chooses; `store_nodes` writes, and is given the list for good; `number_and_count`, which is covered, makes the answer.
+-- `closest::closest` meets its contract: a walk of its MIR, by hand. `closest_on`, which is covered, chooses; `store_nodes` writes, and is given the list for good; `answer_of`, which is covered, makes the answer.
 -- All that the walk knows of the three is that each meets its contract. Assumes nothing.
 use mathlib.Core.Path.{_≡_, refl, ap, subst, _∙_}
 use Prim.Native.Nat.{ℕ, _≤_}
@@ -47,7 +47,7 @@ use Rattle.closest_choice.proofs.closest_on as choose
 use Rattle.closest_choice.proofs.closest_on.Symbol as choose-def
 use Rattle.closest_choice.proofs.closest_on.Symbol.{name as #choose}
 use Rattle.closest_choice.proofs.closest_on.Met as choose-thm
-use Rattle.closest_nodes.specs.Listing.{numberAndCount, withChosen}
+use Rattle.closest_nodes.specs.Listing.{answerOf, withChosen}
 use Rattle.closest_nodes.specs.declared.Listed.{Listed}
 use Rattle.closest_nodes.proofs.Chosen.{fits, answers, writes}
 use Rattle.closest_nodes.proofs.Listed as TL
@@ -56,10 +56,10 @@ use Rattle.closest.proofs.store_nodes as store-nodes
 use Rattle.closest.proofs.store_nodes.Symbol as store-nodes-def
 use Rattle.closest.proofs.store_nodes.Symbol.{name as #store-nodes}
 use Rattle.closest.proofs.store_nodes.Met as store-nodes-thm
-use Rattle.closest_nodes.proofs.number_and_count as tell
-use Rattle.closest_nodes.proofs.number_and_count.Symbol as tell-def
-use Rattle.closest_nodes.proofs.number_and_count.Symbol.{name as #tell}
-use Rattle.closest_nodes.proofs.number_and_count.Met as tell-thm
+use Rattle.closest_nodes.proofs.answer_of as tell
+use Rattle.closest_nodes.proofs.answer_of.Symbol as tell-def
+use Rattle.closest_nodes.proofs.answer_of.Symbol.{name as #tell}
+use Rattle.closest_nodes.proofs.answer_of.Met as tell-thm
 use Rattle.closest.proofs.closest.Key.{name as #self}
 use Rattle.closest.proofs.closest as self
 use Rattle.closest.proofs.closest.Statement as stated
@@ -107,7 +107,7 @@ module _ {M : Type 1} (𝓤 : URA M) (H : Heap 𝓤) (A : Atoms 𝓤) (W : Given
   fit : (r : Choice) → r ≡ choice → (r .nearest .count ≤ 16) × (r .nearest .count ≤ length (x .now))
   fit r e = fits (s .now) (g .now) (length (x .now)) r e
 
-  exits : (r : Choice) (n : Listed) (v : Val) (ws : Last (to-store r)) → r ≡ choice → ws .0 ≡ withChosen (s .now) r (x .now) → n ≡ numberAndCount r → Is TL.the-row n (v ∷ [])
+  exits : (r : Choice) (n : Listed) (v : Val) (ws : Last (to-store r)) → r ≡ choice → ws .0 ≡ withChosen (s .now) r (x .now) → n ≡ answerOf r → Is TL.the-row n (v ∷ [])
       → ent 𝓤 (⋆ 𝓤 H A (raw (Tokens (to-store r)) ∷ (‵ (flft κ″ q″) ⊛ ‵ ftrue) ∷ ‵ (lasts store-nodes.ended (κ, (κ′, tt)) (x, (s, (r, tt))) ws) ∷ [])) (Post v)
   exits r n v ws e e′ e″ is =
       qed W (raw (Tokens (to-store r)) ∷ (‵ (flft κ″ q″) ⊛ ‵ ftrue) ∷ ‵ (lasts store-nodes.ended (κ, (κ′, tt)) (x, (s, (r, tt))) ws) ∷ []) ∵
@@ -148,8 +148,8 @@ module _ {M : Type 1} (𝓤 : URA M) (H : Heap 𝓤) (A : Atoms 𝓤) (W : Given
         calls-known ! fm (to-store r) (known-store r) (factI 𝓤 ((r .nearest .count ≤ 16) × (r .nearest .count ≤ length (x .now))) (emp 𝓤) (fit r e)) (λ _ ws. ws .0 ≡ withChosen (s .now) r (x .now)) (λ _ ws. id⊢ 𝓤 _) (and-then ! (load ! (from ! (stop !)) (look ! 3 refl)) (and-then ! (load ! (from ! (stop !)) (look ! 15 refl)) (and-then ! (load ! (from ! (stop !)) (look ! 11 refl)) (no-more !)))) (λ v′ z ws e′ is′.
         -- [(); the tokens of list and table; what says the last records; the target's token; …; _8; …]
         land ! (from ! (stop !)) (init ! 9 refl (nothing-lawful 𝓤 H A W .typed z _ is′ .0)) $
-        -- _0 = number_and_count(_4)
-        calls-plain ! fm (to-tell r) (known-tell r) (id⊢ 𝓤 _) (tell-made r is-r) (id⊢ 𝓤 _) (λ n _. n ≡ numberAndCount r) (λ n _. id⊢ 𝓤 _) (and-then ! (load ! (from ! (stop !)) (look ! 14 refl)) (no-more !)) (λ v″ n _ e″ is″.
+        -- _0 = answer_of(_4)
+        calls-plain ! fm (to-tell r) (known-tell r) (id⊢ 𝓤 _) (tell-made r is-r) (id⊢ 𝓤 _) (λ n _. n ≡ answerOf r) (λ n _. id⊢ 𝓤 _) (and-then ! (load ! (from ! (stop !)) (look ! 14 refl)) (no-more !)) (λ v″ n _ e″ is″.
         -- [what the answer owns; (); the tokens of list and table; what says the last records; the target's token; …; _8; …]
         land ! (from ! (stop !)) (init ! 22 refl (LS.lawful TL.the-type TL′.the-laws 𝓤 H A W .typed n _ is″ .0)) $
         returns ! (look ! 22 refl) $ forget ! 6 refl $ forget ! 8 refl $ forget ! 10 refl $ forget ! 12 refl $ forget ! 14 refl $ forget ! 16 refl $ forget ! 18 refl $ forget ! 20 refl $ forget ! 22 refl $
@@ -177,4 +177,4 @@ closest-spec 𝓤 H 𝓜 𝓖 𝓡 =
     (meets 𝓤 H (𝓖 .A) (givenOf 𝓤 H 𝓜 𝓖) (𝓜 .mem) (𝓡 .run) (tablesOf 𝓤 H 𝓜 (tables 𝓤 H 𝓜 𝓡 code.env))
     (cited 𝓤 H (tripleOf 𝓤 H (𝓖 .A) choose.signature (choose.spec 𝓤 H (𝓖 .A) (𝓜 .mem) (𝓡 .run))) 𝓜 𝓡 code.env #choose choose-def.routine code.calls-closest-choice·closest-on (choose-thm.met 𝓤 H 𝓜 𝓖 𝓡))
     (cited 𝓤 H (tripleOf 𝓤 H (𝓖 .A) store-nodes.signature (store-nodes.spec 𝓤 H (𝓖 .A) (𝓜 .mem) (𝓡 .run))) 𝓜 𝓡 code.env #store-nodes store-nodes-def.routine code.calls-closest·store-nodes (store-nodes-thm.met 𝓤 H 𝓜 𝓖 𝓡))
-    (cited 𝓤 H (tripleOf 𝓤 H (𝓖 .A) tell.signature (tell.spec 𝓤 H (𝓖 .A) (𝓜 .mem) (𝓡 .run))) 𝓜 𝓡 code.env #tell tell-def.routine code.calls-closest-nodes·number-and-count (tell-thm.met 𝓤 H 𝓜 𝓖 𝓡)))
+    (cited 𝓤 H (tripleOf 𝓤 H (𝓖 .A) tell.signature (tell.spec 𝓤 H (𝓖 .A) (𝓜 .mem) (𝓡 .run))) 𝓜 𝓡 code.env #tell tell-def.routine code.calls-closest-nodes·answer-of (tell-thm.met 𝓤 H 𝓜 𝓖 𝓡)))

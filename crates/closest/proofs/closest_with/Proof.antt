@@ -21,15 +21,15 @@ with-nodes-requires c κs =
     fits (a .table .now) (a .target .now) 16 (c .before .closest-on .result) (c .before .closest-on .ensures) .0
 
 abbrev both : Listed → List Node → Found
-both r nodes = record { number = r .number; count = r .count; nodes = nodes }
+both r nodes = record { number = r .number; count = r .count; distances = r .distances; nodes = nodes }
 
 returns : tie.Need-returns
 returns c =
     let start = c .before .before .before .before .before in
     let a = start .args in
     let choice = c .before .before .closest-on in
-    let told : c .before .number-and-count .result ≡ listed (a .table .now) (a .target .now) 16 =
-    c .before .number-and-count .ensures ∙ answers (a .table .now) (a .target .now) 16 (choice .result) (choice .ensures) in
+    let told : c .before .answer-of .result ≡ listed (a .table .now) (a .target .now) 16 =
+    c .before .answer-of .ensures ∙ answers (a .table .now) (a .target .now) 16 (choice .result) (choice .ensures) in
     let listed-nodes : c .with-nodes .result ≡ listAfter (a .table .now) (a .target .now) (a .list) =
     c .with-nodes .ensures
     ∙ writes (a .table .now) (a .target .now) 16 (choice .result) (choice .ensures) (a .list)

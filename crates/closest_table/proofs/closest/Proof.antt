@@ -8,7 +8,7 @@ use borrow.Author.Tests.{not-true, not-false}
 use lib.ListN.{length}
 use Rattle.table_model.specs.Layout.{headerSound}
 use Rattle.table_model.proofs.Header.{header-sound}
-use Rattle.closest_table.proofs.Walk.{no-header}
+use Rattle.closest_table.proofs.Ends.{no-header}
 use Rattle.closest_table.proofs.closest.Statement.{statement}
 use Rattle.closest_table.proofs.closest.Tie as tie
 

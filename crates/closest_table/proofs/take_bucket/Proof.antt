@@ -1,18 +1,16 @@
 -- `closest_table::take_bucket` meets its contract. Assumes nothing.
-use mathlib.Core.Path.{_≡_, sym, ap, _∙_}
+use mathlib.Core.Path.{_≡_, sym, _∙_}
 use mathlib.Core.Bool.{true}
 use Prim.Native.Nat.{ℕ, _+_, _≤_}
 use native.Mathlib.Omega.{arith}
 use borrow.Author.Needs.{needs}
 use borrow.Author.Tests.{not-true, not-false}
-use lib.ListN.{take, getD}
+use lib.ListN.{getD}
 use Rattle.bucket_model.specs.Sound.{sound}
-use Rattle.closest_nearest.specs.Sort.{insertAll}
-use Rattle.closest_nearest.specs.Nearest.{farness, holding, held}
+use Rattle.closest_nearest.specs.Nearest.{held}
 use Rattle.table_model.specs.Layout.{offsetOf, bucketBytes}
 use Rattle.table_model.specs.Sound.{anywhere}
-use Rattle.closest_table.specs.Closest.{candidatesOf}
-use Rattle.closest_table.proofs.Take.{not-taken, counts, entries-are, taken}
+use Rattle.closest_table.proofs.Take.{not-taken, counts, taken, gathered}
 use Rattle.closest_table.proofs.take_bucket.Statement.{statement}
 use Rattle.closest_table.proofs.take_bucket.Tie as tie
 
@@ -20,7 +18,7 @@ returns : tie.Need-returns
 returns c =
     let args = c .before .before .before .args in (
       not-taken (args .bytes .now) (args .slot) (args .clock .0) (args .own) (args .number) (c .before .settled .ensures) (not-true _ (c .if1 .taken)),
-      λ never. absurd (let z : _≡_ {A = ℕ} 0 1 = cc in omega arith),
+      (λ never. absurd (let z : _≡_ {A = ℕ} 0 1 = cc in omega arith), omega arith),
     )
 
 -- past the first test
@@ -47,16 +45,19 @@ gather-requires c κs =
 
 returns-2 : tie.Need-returns-2
 returns-2 c =
-    let at-if1 = c .before .before .before .before .before .before in
+    let at-gather = c .before .before in
+    let at-if1 = at-gather .before .before .before .before in
     let start = at-if1 .before .before .before in
     let args = start .args in
     let s = args .bytes .now in (
       taken s (args .slot) (args .clock .0) (args .own) (args .number) (start .pre .0) (settled at-if1)
-          (c .before .before .before .all-home .ensures) (c .before .before .gather .ensures .0) (c .both .ensures),
-      λ yes.
-          c .before .before .gather .ensures .1
-          ∙ ap (λ es. holding (take 16 (insertAll (farness (args .target)) (candidatesOf (args .slot) 0 es) (held (args .nearest)))))
-          (entries-are s (args .slot) (args .clock .0) (args .own) (args .number) (start .pre .0) (settled at-if1)),
+          (at-gather .before .all-home .ensures) (at-gather .gather .ensures .0) (c .both .ensures),
+      (
+        λ yes.
+            gathered s (args .slot) (args .clock .0) (args .own) (args .number) (start .pre .0) (settled at-if1) (args .target) (held (args .nearest))
+            (at-gather .gather .ensures .1 .0) (at-gather .gather .ensures .1 .1),
+        omega (arith, at-gather .gather .ensures .1 .1, within at-if1 .0),
+      ),
     )
 
 pub take-bucket-spec : {M : Type 1} → statement M

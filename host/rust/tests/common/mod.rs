@@ -1,7 +1,7 @@
 //! What the tests share: values of the reference as values of the wrapper, and bounds.
 #![allow(dead_code)]
 
-use coghammer::{Accepted, Endpoint, Head, MonotonicMillis, Node, Number, Packet, Standing};
+use coghammer::{Accepted, Endpoint, Head, Listed, MonotonicMillis, Node, Number, Packet, Standing};
 use reference::bucket::{Entry, PingState, PongOutcome};
 use reference::packet;
 use reference::table::{self, Outcome};
@@ -32,6 +32,11 @@ pub fn node(node: &packet::Node) -> Node {
     let packet::Endpoint { address, udp, tcp } = &node.endpoint;
     let endpoint = Endpoint::new(address, *udp, *tcp).expect("an address of 4 or 16 bytes");
     Node { key: node.key[..].try_into().expect("a key of 64 bytes"), endpoint }
+}
+
+/// What the reference tells of an accepted closest call, as the wrapper says it.
+pub fn listed((nodes, distances): &(Vec<packet::Node>, usize)) -> Listed {
+    Listed { count: nodes.len(), distances: *distances }
 }
 
 /// The answer of the reference, as the wrapper says it.

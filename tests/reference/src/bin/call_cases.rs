@@ -23,7 +23,7 @@ use reference::hex;
 use reference::keccak::keccak256;
 use reference::layout::{self, bucket_bytes, size, ENTRY, LINE, SEATS};
 use reference::packet::{Endpoint, Node, Packet};
-use reference::table::{Accepted, Counters, Outcome, Table};
+use reference::table::{Accepted, Counters, Listed, Outcome, Table};
 
 /// Room for 257 buckets, as the program has it.
 const MEMORY: usize = 736_046;
@@ -49,6 +49,8 @@ const VALUES: [&str; 11] = [
     "enr",
     "record",
 ];
+const WALKS: [&str; 5] =
+    ["nothing seated", "fewer than sixteen in all", "sixteen gathered", "17 to 30 distances", "31 distances"];
 const BUCKETS: [u64; 5] = [1, 2, 3, 16, 256];
 
 /// The fields of a case but its kind and the number of lent bytes.
@@ -165,9 +167,12 @@ impl Cases {
         let found = layout::closest(self.lent(), &mut list, target);
         let mut answer = match found {
             Err(number) => number.to_string(),
-            Ok(count) => format!("0\t{count}"),
+            Ok(Listed { count, distances }) => format!("0\t{count}\t{distances}"),
         };
-        for node in &list[..found.unwrap_or(0)] {
+        if let Ok(listed) = found {
+            self.reach(format!("closest, {}", walk(listed.distances)));
+        }
+        for node in &list[..found.map_or(0, |listed| listed.count)] {
             write!(answer, "\t{}\t{}", hex(&node.key[..8]), endpoint_text(&node.endpoint)).unwrap();
         }
         let records: Vec<u8> = list.iter().flat_map(record).collect();
@@ -199,6 +204,17 @@ impl Cases {
     fn end(&mut self) {
         let counts = self.counters.0.map(|count| count.to_string()).join("\t");
         writeln!(self.expected, "counts\t{counts}").unwrap();
+    }
+}
+
+/// How far a closest call went, by the number of distances that it worked out.
+fn walk(distances: usize) -> &'static str {
+    match distances {
+        0 => "nothing seated",
+        1..16 => "fewer than sixteen in all",
+        16 => "sixteen gathered",
+        31 => "31 distances",
+        _ => "17 to 30 distances",
     }
 }
 
@@ -340,6 +356,14 @@ fn damaged(cases: &mut Cases, calls: &mut Calls, table: &Table, kind: Kind, few:
     for number in numbers {
         cases.reach(format!("{kind:?}, {}", if number == 1 { "1" } else { "not 1" }));
     }
+    // 1 goes first, also where the bucket isn't among those that the list takes
+    let targets: Vec<Vec<u8>> = (0..8).map(|_| calls.random.bytes(64)).collect();
+    let away = targets.into_iter().find(|target| !table.taken(&keccak256(target)).contains(&slot));
+    if let Some(target) = away.filter(|_| !few || calls.random.chance(30)) {
+        if cases.call(&Call::Closest { target, room: ENTRIES }) == 1 {
+            cases.reach("closest 1 of a bucket that isn't taken".to_string());
+        }
+    }
     cases.store(at, &before);
     true
 }
@@ -354,6 +378,20 @@ fn packet(calls: &mut Calls, entry: &Entry, now: u64, kind: u8, hash: &[u8]) -> 
 /// The last millisecond at which an entry's proof isn't too old, unless it is past.
 fn due(table: &Table, entry: &Entry) -> Option<u64> {
     entry.proof?.checked_add(PROOF_LIFETIME).filter(|due| *due >= table.clock)
+}
+
+/// Closest calls that go as far as the table lets them: of the own key and of random targets, one for each way.
+fn walks(cases: &mut Cases, calls: &mut Calls, table: &Table) {
+    let mut done = Vec::new();
+    let random = (0..64).map(|_| calls.random.bytes(64)).collect::<Vec<_>>();
+    for target in [calls.peers.own.to_vec()].into_iter().chain(random) {
+        let taken = table.taken(&keccak256(&target));
+        let far = walk(taken.iter().map(|slot| table.buckets[*slot].entries.len()).sum());
+        if !done.contains(&far) {
+            cases.call(&Call::Closest { target, room: ENTRIES });
+            done.push(far);
+        }
+    }
 }
 
 /// Both sides of 43,200,000 ms and of 500 ms: proofs of a replacement in a full bucket and of an entry,
@@ -453,6 +491,9 @@ fn run(cases: &mut Cases, stretch: &Stretch, kinds: &mut Vec<Kind>, few: bool) {
         let table = sound_table(&mut calls, stretch.buckets);
         store_table(cases, &table);
     }
+    if let Some(table) = layout::read(cases.lent()) {
+        walks(cases, &mut calls, &table);
+    }
     let every = stretch.calls / (stretch.damages + 1) + 1;
     for number in 1..=stretch.calls {
         let Some(table) = layout::read(cases.lent()) else { return };
@@ -483,11 +524,11 @@ fn run(cases: &mut Cases, stretch: &Stretch, kinds: &mut Vec<Kind>, few: bool) {
 
 /// The bounded set; with these seeds it reaches everything.
 const STORED: [Stretch; 5] = [
-    Stretch { seed: 76, buckets: 1, keys: 64, sound: false, calls: 120, damages: 10, faults: true },
-    Stretch { seed: 77, buckets: 2, keys: 96, sound: true, calls: 60, damages: 20, faults: false },
-    Stretch { seed: 78, buckets: 3, keys: 128, sound: true, calls: 80, damages: 20, faults: false },
-    Stretch { seed: 79, buckets: 16, keys: 256, sound: false, calls: 60, damages: 5, faults: false },
-    Stretch { seed: 80, buckets: 256, keys: 32, sound: true, calls: 30, damages: 5, faults: false },
+    Stretch { seed: 783, buckets: 1, keys: 64, sound: false, calls: 120, damages: 10, faults: true },
+    Stretch { seed: 938, buckets: 2, keys: 96, sound: true, calls: 60, damages: 20, faults: false },
+    Stretch { seed: 835, buckets: 3, keys: 128, sound: true, calls: 80, damages: 20, faults: false },
+    Stretch { seed: 746, buckets: 16, keys: 256, sound: false, calls: 60, damages: 5, faults: false },
+    Stretch { seed: 622, buckets: 256, keys: 32, sound: true, calls: 30, damages: 5, faults: false },
 ];
 
 fn stored(cases: &mut Cases) {
@@ -528,7 +569,9 @@ fn wanted() -> Vec<String> {
     let values = VALUES.iter().map(|word| format!("datagram, {word}"));
     let buckets = BUCKETS.iter().map(|count| format!("{count} buckets"));
     let unsound = KINDS.iter().map(|kind| format!("{kind:?}, 1"));
-    answers.chain(values).chain(buckets).chain(unsound).collect()
+    let walks = WALKS.iter().map(|walk| format!("closest, {walk}"));
+    let far = ["closest 1 of a bucket that isn't taken".to_string()];
+    answers.chain(values).chain(buckets).chain(unsound).chain(walks).chain(far).collect()
 }
 
 fn save(cases: &Cases, input: &str, expected: &str) -> std::io::Result<()> {

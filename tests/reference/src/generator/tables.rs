@@ -17,7 +17,11 @@ pub fn sound_table(calls: &mut Calls, buckets: u64) -> Table {
         let id = keccak256(&peers[0].key);
         let number = bucket_number(&distance(&table.own, &id)).expect("a peer isn't the own node");
         let Some(index) = number.checked_sub(table.lowest()) else { continue };
-        let taken = if random.chance(50) { ENTRIES } else { random.below(ENTRIES + 1) };
+        let taken = match random.below(8) {
+            0..4 => ENTRIES,
+            4 | 5 => ENTRIES - 1,
+            _ => random.below(ENTRIES + 1),
+        };
         let waiting = random.below(REPLACEMENTS + 1);
         let clock = table.clock;
         let bucket = &mut table.buckets[index];

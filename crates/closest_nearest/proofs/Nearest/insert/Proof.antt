@@ -1,7 +1,5 @@
 -- `closest_nearest::Nearest::insert` meets its contract. Assumes nothing.
-use mathlib.Core.Path.{_≡_, sym, ap, _∙_}
-use Prim.Native.Nat.{ℕ, _≤_, _<_}
-use native.Mathlib.Omega.{arith}
+use mathlib.Core.Path.{_≡_}
 use borrow.Author.Needs.{needs}
 use lib.ListN.{length}
 use Rattle.closest_nearest.proofs.Shift.{length-mapped}
@@ -16,13 +14,13 @@ returns : tie.Need-returns
 returns c =
     let start = c .before .before in
     let args = start .args in
-    insert-none (args .target) (args .self) (args .x) (start .pre) (size start) (rw (c .before .place .ensures) at (c .if1 .taken))
+    insert-none (args .self) (args .x) (start .pre) (size start) (rw (c .before .place .ensures) at (c .if1 .taken))
 
 returns-2 : tie.Need-returns-2
 returns-2 c =
     let start = c .before .before .before .before .before in
     let args = start .args in
-    insert-held (args .target) (args .self) (args .x) (start .pre) (size start)
+    insert-held (args .self) (args .x) (start .pre) (size start)
     (c .before .before .before .before .place .result) (c .before .before .before .before .place .ensures) (c .before .before .before .if1 .left)
     (c .before .one-more .ensures) (c .put-at .ensures)
 

@@ -1,7 +1,6 @@
 -- `closest_nearest::Nearest::place` meets its contract. The invariant: those from k on are at least as far. Assumes nothing.
-use mathlib.Core.Path.{_≡_, sym, ap, _∙_}
-use mathlib.Core.Bool.{true, false}
-use Prim.Native.Nat.{ℕ, _-_, _≤_, _<_}
+use mathlib.Core.Path.{_≡_, sym, _∙_}
+use Prim.Native.Nat.{_-_, _≤_}
 use native.Mathlib.Omega.{arith}
 use borrow.Author.Needs.{needs}
 use borrow.Author.Tests.{not-true, not-false}
@@ -12,10 +11,10 @@ use Rattle.closest_nearest.proofs.Nearest.place.Statement.{statement}
 use Rattle.closest_nearest.proofs.Nearest.place.Tie as tie
 
 abbrev Inv-loop : tie.InvT-loop
-Inv-loop target self hash k₀ k = (k ≤ self .count) × Behind target hash self k
+Inv-loop self far k₀ k = (k ≤ self .count) × Behind far self k
 
 abbrev μ-loop : tie.MeasureT-loop
-μ-loop target self hash k₀ k = k
+μ-loop self far k₀ k = k
 
 size : (c : tie.Start Inv-loop μ-loop) → length (c .args .t1 .list) ≡ 16
 size c = search (needs, length-mapped)
@@ -31,7 +30,7 @@ returns c =
     let at-loop = c .before .before .before .before .before in
     let start = at-loop .before .before in
     let args = start .args in
-    place-found (args .target) (args .t1) (args .x) (start .pre) (size start) (at-loop .loop .k) (omega arith) (omega arith)
+    place-found (args .t1) (args .x) (start .pre) (size start) (at-loop .loop .k) (omega arith) (omega arith)
     (sym (c .before .not-farther .ensures) ∙ not-true _ (c .if1 .taken)) (at-loop .loop .inv .1)
 
 loop-again : tie.Need-loop-again Inv-loop μ-loop
@@ -39,7 +38,7 @@ loop-again c =
     let at-loop = c .before .before .before .before .before in
     let start = at-loop .before .before in
     let args = start .args in
-    (omega arith, behind-more (args .target) (args .x .hash) (args .t1) (at-loop .loop .k) (at-loop .loop .inv .1) (sym (c .before .not-farther .ensures) ∙ not-false _ (c .if1 .left)))
+    (omega arith, behind-more (args .x .far) (args .t1) (at-loop .loop .k) (at-loop .loop .inv .1) (sym (c .before .not-farther .ensures) ∙ not-false _ (c .if1 .left)))
 
 returns-2 : tie.Need-returns-2 Inv-loop μ-loop
 returns-2 c =
@@ -47,7 +46,7 @@ returns-2 c =
     let start = at-loop .before .before in
     let args = start .args in
     let done : at-loop .loop .k ≡ 0 = omega arith in
-    place-first (args .target) (args .t1) (args .x) (start .pre) (size start) (rw done at (at-loop .loop .inv .1))
+    place-first (args .t1) (args .x) (start .pre) (size start) (rw done at (at-loop .loop .inv .1))
 
 pub place-spec : {M : Type 1} → statement M
 place-spec =

@@ -1,0 +1,11 @@
+pub mod Turns
+pub mod Order
+pub mod Kept
+pub mod Nearer
+pub mod Blocks
+pub mod InOrder
+pub mod ByNumber
+pub mod Most
+pub mod Digit
+pub mod Filled
+pub mod Examples
