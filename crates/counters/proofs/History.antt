@@ -12,7 +12,7 @@ use Rattle.counters.specs.declared.Counters.{Counters}
 use Rattle.counters.specs.Counters.{cleared, oneMore, raised, countOf}
 use Rattle.counters.specs.History.{counted, timesOf, capped, CountsAreHistory}
 
-byTest : {P : Type 0} (b : Bool) → (b ≡ true → P) → (b ≡ false → P) → P
+pub byTest : {P : Type 0} (b : Bool) → (b ≡ true → P) → (b ≡ false → P) → P
 byTest true f g = f refl
 byTest false f g = g refl
 

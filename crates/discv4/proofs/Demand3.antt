@@ -67,14 +67,14 @@ told-is : (s : Bytes) (p : PublicCall) → numbersTold s p ≡ answersOn answerN
 told-is s (single c) = refl
 told-is s (burst b room) = sym (numbers-same s (callsOf b room))
 
-all-left : (s : Bytes) (ps : List PublicCall) → tableLeftAll s ps ≡ bytesAfterAll answerNumber tableAfter s (allMade ps)
+pub all-left : (s : Bytes) (ps : List PublicCall) → tableLeftAll s ps ≡ bytesAfterAll answerNumber tableAfter s (allMade ps)
 all-left s [] = refl
 all-left s (p ∷ ps) =
     ap (λ (t : Bytes). tableLeftAll t ps) (left-is s p)
     ∙ all-left (bytesAfterAll answerNumber tableAfter s (callsMade p)) ps
     ∙ sym (append-bytes s (callsMade p) (allMade ps))
 
-all-told : (s : Bytes) (ps : List PublicCall) → allTold s ps ≡ answersOn answerNumber tableAfter s (allMade ps)
+pub all-told : (s : Bytes) (ps : List PublicCall) → allTold s ps ≡ answersOn answerNumber tableAfter s (allMade ps)
 all-told s [] = refl
 all-told s (p ∷ ps) =
     rw (told-is s p, left-is s p)
@@ -85,7 +85,7 @@ made-is : (p : PublicCall) → IsPublicCall p → All IsCall (callsMade p)
 made-is (single c) h = (h, tt)
 made-is (burst b room) h = calls-made b h room
 
-all-are : (ps : List PublicCall) → All IsPublicCall ps → All IsCall (allMade ps)
+pub all-are : (ps : List PublicCall) → All IsPublicCall ps → All IsCall (allMade ps)
 all-are [] h = tt
 all-are (p ∷ ps) h = All-append IsCall (callsMade p) (allMade ps) (made-is p (h .0)) (all-are ps (h .1))
 
@@ -131,7 +131,7 @@ one-counted k s (single (sweep now)) = refl
 one-counted k s (single (closest target room)) = refl
 one-counted k s (burst b room) = ap (counted k) (sym (burst-counted s b room))
 
-counters-counted : (k : Counters) (s : Bytes) (ps : List PublicCall) → countersLeftAll k s ps ≡ counted k (countedAnswers s (allMade ps))
+pub counters-counted : (k : Counters) (s : Bytes) (ps : List PublicCall) → countersLeftAll k s ps ≡ counted k (countedAnswers s (allMade ps))
 counters-counted k s [] = refl
 counters-counted k s (p ∷ ps) =
     let t : Bytes = bytesAfterAll answerNumber tableAfter s (callsMade p) in

@@ -74,27 +74,45 @@ own-step st g (none false) buckets key =
     (λ z. (rw z (none true), refl))
 own-step st g (some key count one most t sound values) buckets owner = (some key count one most t sound values, refl)
 
+-- a call that is asked for has values of their types
+abbrev pub AsksValues : Asked → Type 0
+AsksValues (own buckets key) = Unit {0}
+AsksValues (call c) = IsCall c
+AsksValues unreadable = Unit {0}
+
 module _ (line : Bytes) where
-  by-kind : (st : State) (g : Stage) → Kept st g → (l : Line) → Numbers l → (isRead l ≡ true → length line ≤ 3000)
+  values-asked : (l : Line) → Numbers l → (isRead l ≡ true → length line ≤ 3000) → AsksValues (askedBy line l)
+  values-asked (Own buckets key) n short = tt
+  values-asked (Rx now unix address port signer bytes) n short =
+      let is = slice-said line (short refl) in
+      (n .0, n .1, is address, n .2, is signer, is bytes)
+  values-asked (Sent now key address udp tcp hash) n short =
+      let is = slice-said line (short refl) in
+      (n .0, is key, is address, n .1, n .2, is hash)
+  values-asked (Sweep now) n short = n
+  values-asked Unreadable n short = tt
+
+  by-kind : (st : State) (g : Stage) → Kept st g → (l : Line) → AsksValues (askedBy line l)
       → Step (lineAfter st line l) (numberOn st (askedBy line l)) g (askedBy line l)
   unfolding lineAfter stageAfter numberAt
-  by-kind st g k (Own buckets key) n short = own-step st g k buckets (said line key)
-  by-kind st g k (Rx now unix address port signer bytes) n short =
-      let is = slice-said line (short refl) in
-      call-step st g k (datagram now unix (said line address) port (said line signer) (said line bytes))
-      (n .0, n .1, is address, n .2, is signer, is bytes)
-  by-kind st g k (Sent now key address udp tcp hash) n short =
-      let is = slice-said line (short refl) in
-      call-step st g k (pingSent now (said line key) (said line address) udp tcp (said line hash))
-      (n .0, is key, is address, n .1, n .2, is hash)
-  by-kind st g k (Sweep now) n short = call-step st g k (sweep now) n
-  by-kind st g (none owned) Unreadable n short = (none owned, refl)
-  by-kind st g (some key count one most t sound values) Unreadable n short = (some key count one most t sound values, refl)
+  by-kind st g k (Own buckets key) is = own-step st g k buckets (said line key)
+  by-kind st g k (Rx now unix address port signer bytes) is =
+      call-step st g k (datagram now unix (said line address) port (said line signer) (said line bytes)) is
+  by-kind st g k (Sent now key address udp tcp hash) is =
+      call-step st g k (pingSent now (said line key) (said line address) udp tcp (said line hash)) is
+  by-kind st g k (Sweep now) is = call-step st g k (sweep now) is
+  by-kind st g (none owned) Unreadable is = (none owned, refl)
+  by-kind st g (some key count one most t sound values) Unreadable is = (some key count one most t sound values, refl)
+
+pub asked-values : (l : Held) → AsksValues (asked l)
+unfolding asked
+asked-values (whole line) = values-asked line (lineOf line) (line-numbers line) (λ r. read-short line (lineOf line) refl r)
+asked-values tooLong = tt
 
 -- a line more: the state shows the stage, and the replay's number is the run's
 pub line-step : (st : State) (g : Stage) → Kept st g → (l : Held) → Kept (after st l) (stageAfter g (asked l)) × (numberOn st (asked l) ≡ numberAt g (asked l))
 unfolding after asked stageAfter numberAt
-line-step st g k (whole line) = by-kind line st g k (lineOf line) (line-numbers line) (λ r. read-short line (lineOf line) refl r)
+line-step st g k (whole line) = by-kind line st g k (lineOf line) (asked-values (whole line))
 line-step st g (none owned) tooLong = (none owned, refl)
 line-step st g (some key count one most t sound values) tooLong = (some key count one most t sound values, refl)
 

@@ -1,0 +1,1 @@
+// No code: specs/ has which calls may change places, and proofs/ that they come out alike.

@@ -1,0 +1,1 @@
+// No code: specs/ has when two logs are recordings of one box, and proofs/ that their replays end alike.
