@@ -202,6 +202,25 @@ uint8_t coghammer_burst(coghammer_counters *counters, uint8_t *table, size_t tab
 #define COGHAMMER_BURST 32
 #define COGHAMMER_PACKED_ADDRESS 17
 
+// ---- a box that counts milliseconds in 32 bits, with a counter that rolls over after 49.7 days. Each call above has a form that takes a reading of that
+// counter in place of the clock. The reading is widened by the table's clock, that of the last accepted call: its difference to the clock's low 32 bits, taken
+// round the rollover, is added if it is below 2^31; else the reading counts as going back (2), as where the sum doesn't fit 64 bits. 1 goes first. So a call
+// must be accepted at least every 24.8 days: sweep, which only 1 and 2 refuse. After a longer silence start counter and table anew, both from 0.
+
+typedef struct coghammer_low_millis {
+    uint32_t millis;
+} coghammer_low_millis;
+
+uint32_t coghammer_datagram_low(coghammer_counters *counters, uint8_t *table, size_t table_len, coghammer_low_millis reading, coghammer_unix unix_time, const uint8_t *address, size_t address_len, uint16_t port, const uint8_t *signer, size_t signer_len, const uint8_t *datagram, size_t datagram_len);
+uint8_t coghammer_ping_sent_low(coghammer_counters *counters, uint8_t *table, size_t table_len, coghammer_low_millis reading, const uint8_t *key, size_t key_len, const uint8_t *address, size_t address_len, uint16_t udp, uint16_t tcp, const uint8_t *hash, size_t hash_len);
+uint8_t coghammer_sweep_low(coghammer_counters *counters, uint8_t *table, size_t table_len, coghammer_low_millis reading);
+
+// Each datagram's reading is widened by the table's clock at its turn.
+uint8_t coghammer_burst_low(coghammer_counters *counters, uint8_t *table, size_t table_len, uint8_t *numbers, size_t numbers_len, const uint8_t *buffer, size_t buffer_len, const size_t *lengths, size_t lengths_len, const uint8_t *signers, size_t signers_len, const uint8_t *addresses, size_t addresses_len, const uint16_t *ports, size_t ports_len, const coghammer_low_millis *readings, size_t readings_len, const coghammer_unix *unix_times, size_t unix_times_len);
+
+// The full clock of a reading, written to clock. The answer number: 0, or 1 (of the table's header alone) or 2 and nothing is written.
+uint8_t coghammer_full_clock(const uint8_t *table, size_t table_len, coghammer_low_millis reading, coghammer_millis *clock);
+
 // Clears the counters.
 void coghammer_clear(coghammer_counters *counters);
 

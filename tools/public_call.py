@@ -2,10 +2,10 @@
 """Prints the proof by hand (Proof.antt) of a counted call, or of its form for C.
 
     public_call.py call NAME MODEL ANSWER KIND..        counted_NAME::NAME(counters: &mut Counters, table: &mut [u8], P1, ..)
-    public_call.py c-call NAME MODEL ANSWER KIND..      capi::coghammer_NAME(counters: &mut Counters, table: &mut [u8], P1, ..)
+    public_call.py c-call NAME MODEL ANSWER KIND..      capi::coghammer_NAME(counters: &mut Counters, table: &mut [u8], P1, ..), or capi::low::..
 
 NAME does its work by call_NAME::NAME_on, counts the answer's number and returns the answer; coghammer_NAME does its work by
-capi_calls::NAME_on. MODEL is the call's constructor in call_history's specs/Model.antt. ANSWER is `number` (a u8: the answer number),
+capi_calls::NAME_on. A NAME that ends in _low takes a reading of 32 bits, and its work is call_low::NAME_on. MODEL is the call's constructor in call_history's specs/Model.antt. ANSWER is `number` (a u8: the answer number),
 `received` (a call_answer::Received) or `code` (a u32, of which capi_codes::number_in is the number). A KIND is that of a parameter after the
 table: slice, u16, u64, or a struct that holds one number, as node::UnixSeconds.
 
@@ -150,7 +150,7 @@ NUMBERS = {
 
 
 def proof(mode, name, model, answer, *kinds):
-    for_c, number = mode == "c-call", answer == "number"
+    for_c, number, low = mode == "c-call", answer == "number", name.endswith("_low")
     kinds = ["table", *kinds]
     # the temporaries are in the order of the MIR
     temporaries = ["answer", "pointer", "slice", "unit", "reference"] + ([] if number else ["number"])
@@ -159,18 +159,19 @@ def proof(mode, name, model, answer, *kinds):
     call = f"(model.{model} {' '.join(args)})"
     row, law, _, _, makes, mir = plain(ANSWERS[answer], "TA")
     function = "coghammer_" + name if for_c else name
-    crate, work_crate = ("capi", "capi_calls") if for_c else ("counted_" + name, "call_" + name)
+    crate, work_crate = ("capi", "capi_calls") if for_c else ("counted_" + name, "call_low" if low else "call_" + name)
+    answer_on, bytes_after, received = ("answerLow", "bytesLow", "receivedLow") if low else ("answerOn reading", "bytesAfter reading", "received")
     values = {
         "name": name, "name-dashed": name.replace("_", "-"), "function": function, "function-dashed": function.replace("_", "-"),
-        "crate": crate, "crate-proofs": f"Rattle.{crate}.proofs",
+        "module": crate + ("::low" if for_c and low else ""), "crate-proofs": f"Rattle.{crate}.proofs" + (".low" if for_c and low else ""),
         "work-crate": work_crate, "work-crate-dashed": work_crate.replace("_", "-"), "work-proofs": f"Rattle.{work_crate}.proofs",
         "number-name": NUMBERS[answer][0], "number-call": NUMBERS[answer][1].replace("::", "·").replace("_", "-"),
         "number-proofs": "Rattle.capi_codes.proofs.number_in" if for_c else "Rattle.call_answer.proofs.number",
         "Answer": "Received" if answer == "received" else "ℕ",
         "number-of-r": "r" if number else f"({NUMBERS[answer][0]} r)",
         "answer-row": row, "answer-lawful": law, "answer-makes": makes, "answer-mir": mir,
-        "answer-is": f"r ≡ answerOn reading {table} {call}" if number else "r ≡ " + NUMBERS[answer][2].format(f"received {table} {' '.join(args)}"),
-        "table-is": f"zs ≡ bytesAfter reading {table} {call}",
+        "answer-is": f"r ≡ {answer_on} {table} {call}" if number else "r ≡ " + NUMBERS[answer][2].format(f"{received} {table} {' '.join(args)}"),
+        "table-is": f"zs ≡ {bytes_after} {table} {call}",
         **of_parameters, **walk(names, len(kinds)),
     }
 
@@ -272,6 +273,7 @@ use Rattle.call_model.specs.Calls.{answerOn, bytesAfter}
 use Rattle.call_model.specs.Reading.{reading}
 use Rattle.call_answer.specs.Answer.{numberOf}
 use Rattle.call_datagram.specs.Received.{received}
+use Rattle.call_low.specs.Got.{answerLow, bytesLow, receivedLow}
 use Rattle.call_answer.specs.declared.Received.{Received}
 use Rattle.call_answer.proofs.Received as TA
 use Rattle.call_answer.proofs.Received.Laws as TA′
@@ -287,7 +289,7 @@ use Rattle.capi_codes.specs.Codes.{numberIn, receivedCode}
 """
 
 CALL = """\
--- `‹crate›::‹function›` meets its contract: a walk of its MIR, by hand, printed by tools/public_call.py.
+-- `‹module›::‹function›` meets its contract: a walk of its MIR, by hand, printed by tools/public_call.py.
 -- The call does its work by a covered function, `‹work-crate›::‹name›_on`, and counts the answer in the counters that the caller lends.
 -- The counters are the first parameter, so that the tokens and what the other parameters own are, as they stand, what `‹name›_on` asks.
 -- Both `&mut`s are given up for good: the table to `‹name›_on`, and the counters to `counters::count`.

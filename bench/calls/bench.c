@@ -126,6 +126,27 @@ static void measure_burst(const uint8_t *packet, size_t len) {
     printf("  %-34s %7.2f us 32 calls %7.2f us one call  %.3f\n", "32 Pings", many / 1e3, one / 1e3, one / many);
 }
 
+// the packet from entry after entry, at a clock of 64 bits and at a reading of 32, in turns
+static void measure_low(const uint8_t *packet, size_t len) {
+    coghammer_counters counters;
+    coghammer_clear(&counters);
+    double wide = 1e18, low = 1e18;
+    fill(0);
+    for (int t = 0; t < TURNS; t++) {
+        memcpy(table, full, sizeof table);
+        double start = now();
+        for (int i = 0; i < BATCH; i++)
+            if (COGHAMMER_NUMBER(coghammer_datagram(&counters, table, sizeof table, (coghammer_millis){20}, (coghammer_unix){0}, at[i], 4, 77, keys[i], 64, packet, len))) exit(1);
+        wide = best_of(wide, (now() - start) / BATCH);
+        memcpy(table, full, sizeof table);
+        start = now();
+        for (int i = 0; i < BATCH; i++)
+            if (COGHAMMER_NUMBER(coghammer_datagram_low(&counters, table, sizeof table, (coghammer_low_millis){20}, (coghammer_unix){0}, at[i], 4, 77, keys[i], 64, packet, len))) exit(1);
+        low = best_of(low, (now() - start) / BATCH);
+    }
+    printf("  %-34s %7.2f us 64 bits  %7.2f us 32 bits   %.3f\n", "Ping, by the clock's width", wide / 1e3, low / 1e3, low / wide);
+}
+
 int main(void) {
     uint8_t body[1280], packet[1280], nodes[12 * COGHAMMER_PACKED_NODE] = {0};
     find_keys();
@@ -138,5 +159,6 @@ int main(void) {
     measure("Neighbors of 12 nodes", 0, packet, joined(packet, body, coghammer_write_neighbors(body, 1280, nodes, sizeof nodes, 99)));
     measure("ping sent", 0, 0, 0);
     measure_burst(packet, joined(packet, body, coghammer_write_ping(body, 1280, address, 4, 1, 1, address, 4, 1, 99, false, 0)));
+    measure_low(packet, joined(packet, body, coghammer_write_ping(body, 1280, address, 4, 1, 1, address, 4, 1, 99, false, 0)));
     return 0;
 }

@@ -511,6 +511,45 @@ static void unsound(void) {
     CHECK(coghammer_sweep(&counters, table, SIZE, MS(2000)) == 1 && sent(2000) == 1 && memcmp(before, table, SIZE) == 0);
 }
 
+// A counter of 32 bits that rolls over.
+static void low(void) {
+    uint8_t body[LARGEST], datagram[LARGEST], numbers[2] = {0xee, 0xee}, signers[128], addresses[34] = {0};
+    size_t lengths[2];
+    uint16_t ports[2] = {30303, 30303};
+    coghammer_millis clock = {77};
+    coghammer_low_millis readings[2] = {{20}, {UINT32_MAX}};
+    coghammer_unix times[2] = {UNIX(now_unix), UNIX(now_unix)};
+    CHECK(sizeof(coghammer_low_millis) == 4 && coghammer_init(table, SIZE, own, 64, BUCKETS) == 0);
+    coghammer_clear(&counters);
+    CHECK(coghammer_full_clock(table, SIZE, (coghammer_low_millis){1u << 31}, &clock) == 2 && coghammer_full_clock(table, SIZE - 1, (coghammer_low_millis){0}, &clock) == 1);
+    CHECK(clock.millis == 77 && coghammer_full_clock(table, SIZE, (coghammer_low_millis){(1u << 31) - 1}, &clock) == 0 && clock.millis == (1u << 31) - 1);
+    // up to the rollover by two sweeps, and past it
+    CHECK(coghammer_sweep_low(&counters, table, SIZE, (coghammer_low_millis){1u << 31}) == 2);
+    CHECK(coghammer_sweep_low(&counters, table, SIZE, (coghammer_low_millis){2000000000}) == 0);
+    CHECK(coghammer_sweep_low(&counters, table, SIZE, (coghammer_low_millis){4000000000}) == 0);
+    CHECK(coghammer_sweep_low(&counters, table, SIZE, (coghammer_low_millis){3999999999}) == 2);
+    CHECK(coghammer_ping_sent_low(&counters, table, SIZE, (coghammer_low_millis){5}, peer, 64, address, 4, 30303, 30304, hash, 32) == 0);
+    CHECK(coghammer_ping_sent_low(&counters, table, SIZE - 1, (coghammer_low_millis){4}, peer, 64, address, 4, 30303, 30304, hash, 32) == 1);
+    CHECK(coghammer_ping_sent_low(&counters, table, SIZE, (coghammer_low_millis){4}, peer, 64, address, 4, 30303, 30304, hash, 32) == 2);
+    size_t len = datagram_of(datagram, body, coghammer_write_pong(body, LARGEST, address, 4, 3, hash, 32, now_unix, false, 0));
+    CHECK(is(coghammer_datagram_low(&counters, table, SIZE, (coghammer_low_millis){4}, UNIX(now_unix), address, 4, 30303, peer, 64, datagram, len), 2, 0));
+    CHECK(is(coghammer_datagram_low(&counters, table, SIZE, (coghammer_low_millis){15}, UNIX(now_unix), address, 4, 30303, peer, 64, datagram, len), 0, 2 + 256 * 1));
+    uint64_t told[COGHAMMER_STATE];
+    CHECK(coghammer_state(table, SIZE, told) == 0 && told[COGHAMMER_STATE_CLOCK] == (1ull << 32) + 15 && told[COGHAMMER_STATE_SEATS] == 1);
+    // a burst: the second reading goes back from the first one's clock
+    len = datagram_of(datagram, body, coghammer_write_find_node(body, LARGEST / 2, own, 64, now_unix));
+    memcpy(datagram + len, datagram, len);
+    lengths[0] = lengths[1] = len;
+    memcpy(signers, peer, 64), memcpy(signers + 64, peer, 64);
+    addresses[0] = addresses[17] = 4;
+    memcpy(addresses + 1, address, 4), memcpy(addresses + 18, address, 4);
+    CHECK(coghammer_burst_low(&counters, table, SIZE, numbers, 2, datagram, 2 * len, lengths, 2, signers, 128, addresses, 34, ports, 2, readings, 1, times, 2) == 28 && numbers[0] == 0xee);
+    CHECK(coghammer_burst_low(&counters, table, SIZE, numbers, 2, datagram, 2 * len, lengths, 2, signers, 128, addresses, 34, ports, 2, readings, 2, times, 2) == 0);
+    CHECK(numbers[0] == 0 && numbers[1] == 2 && counters.counts[0] == 5 && counters.counts[1] == 1 && counters.counts[2] == 5);
+    // after a restart of the counter alone every reading goes back, until it has come round
+    CHECK(coghammer_sweep_low(&counters, table, SIZE, (coghammer_low_millis){0}) == 2);
+}
+
 int main(void) {
     memset(own, 1, 64);
     memset(peer, 2, 64);
@@ -527,6 +566,7 @@ int main(void) {
     ranges();
     bursts();
     unsound();
+    low();
     printf("%d checks, %d failed\n", checks, failures);
     return failures != 0;
 }

@@ -61,6 +61,16 @@ static void ping_sent(void) {
 static void sweep(void) {
     if (coghammer_sweep(&counters, table, sizeof table, (coghammer_millis){600})) abort();
 }
+static void receive_low(void) {
+    if (COGHAMMER_NUMBER(coghammer_datagram_low(&counters, table, sizeof table, (coghammer_low_millis){(uint32_t)clock_now.millis}, date, address, 4, 77, keys[0], 64, datagram, len))) abort();
+}
+static void full_clock(void) {
+    coghammer_millis full;
+    if (coghammer_full_clock(table, sizeof table, (coghammer_low_millis){(uint32_t)clock_now.millis}, &full)) abort();
+}
+static void sweep_low(void) {
+    if (coghammer_sweep_low(&counters, table, sizeof table, (coghammer_low_millis){1200})) abort();
+}
 static void closest(void) {
     if (COGHAMMER_NUMBER(coghammer_closest(nodes, COGHAMMER_CLOSEST, table, sizeof table, own, 64))) abort();
 }
@@ -159,6 +169,8 @@ int main(void) {
     print("`coghammer_datagram`, a Ping", receive);
     len = joined(coghammer_write_neighbors(body, sizeof body, packed, sizeof packed, 99));
     print("`coghammer_datagram`, a Neighbors", receive);
+    print("`coghammer_datagram_low`, a Neighbors", receive_low);
+    print("`coghammer_full_clock`", full_clock);
     print("`coghammer_burst`, of a Neighbors", burst);
     print("`coghammer_packet`", packet);
     print("`coghammer_node_count`", node_count);
@@ -170,6 +182,9 @@ int main(void) {
     print("`coghammer_closest`", closest);
     ping_sent(); // which the sweep removes
     print("`coghammer_sweep`", sweep);
+    const uint8_t next[4] = {192, 0, 3, 7}; // another one
+    if (coghammer_ping_sent(&counters, table, sizeof table, (coghammer_millis){600}, keys[1], 64, next, 4, 77, 77, hash, 32)) abort();
+    print("`coghammer_sweep_low`", sweep_low);
     print("`coghammer_clear`", clear);
     return 0;
 }

@@ -1,5 +1,5 @@
 // fuzz SECONDS [SEED]: drives the functions of include/coghammer.h with sound, mutated and random tables, with datagrams mutated from valid
-// ones, by themselves and in bursts, with boot lists, and with rooms of every size, for so long. The last line says how many calls were made; the exit status is not 0
+// ones, by themselves and in bursts, by clocks and by readings of 32 bits, with boot lists, and with rooms of every size, for so long. The last line says how many calls were made; the exit status is not 0
 // where a check failed.
 //
 // Every call is made twice, with its memory lent in two ways, and must answer the same and leave the same bytes. A block is lent on the heap
@@ -144,6 +144,24 @@ static uint64_t ping_sent(uint8_t **p, const size_t *len, const uint64_t *n) {
 }
 static uint64_t sweep(uint8_t **p, const size_t *len, const uint64_t *n) {
     return coghammer_sweep((coghammer_counters *)p[0], p[1], len[1], (coghammer_millis){n[0]});
+}
+static coghammer_low_millis low(uint64_t clock) { return (coghammer_low_millis){(uint32_t)clock}; }
+static uint64_t datagram_low(uint8_t **p, const size_t *len, const uint64_t *n) {
+    return coghammer_datagram_low((coghammer_counters *)p[0], p[1], len[1], low(n[0]), (coghammer_unix){n[1]}, p[2], len[2], (uint16_t)n[2], p[3], len[3], p[4], len[4]);
+}
+static uint64_t burst_low(uint8_t **p, const size_t *len, const uint64_t *n) {
+    (void)n;
+    return coghammer_burst_low((coghammer_counters *)p[0], p[1], len[1], p[2], len[2], p[3], len[3], (size_t *)p[4], len[4] / sizeof(size_t), p[5], len[5],
+                               p[6], len[6], (uint16_t *)p[7], len[7] / 2, (coghammer_low_millis *)p[8], len[8] / 4, (coghammer_unix *)p[9], len[9] / 8);
+}
+static uint64_t ping_sent_low(uint8_t **p, const size_t *len, const uint64_t *n) {
+    return coghammer_ping_sent_low((coghammer_counters *)p[0], p[1], len[1], low(n[0]), p[2], len[2], p[3], len[3], (uint16_t)n[1], (uint16_t)n[2], p[4], len[4]);
+}
+static uint64_t sweep_low(uint8_t **p, const size_t *len, const uint64_t *n) {
+    return coghammer_sweep_low((coghammer_counters *)p[0], p[1], len[1], low(n[0]));
+}
+static uint64_t full_clock(uint8_t **p, const size_t *len, const uint64_t *n) {
+    return coghammer_full_clock(p[0], len[0], low(n[0]), (coghammer_millis *)p[1]);
 }
 static uint64_t closest(uint8_t **p, const size_t *len, const uint64_t *n) {
     (void)n;
@@ -505,18 +523,63 @@ static void boot_list(void) {
 
 // ---- calls on tables
 
+static uint64_t clock_in(const uint8_t *memory) {
+    uint64_t clock = 0;
+    for (int i = 32; i < 40; i++) clock = clock << 8 | memory[i];
+    return clock;
+}
+
+static uint64_t readings[2]; // by whether they gave a clock
+
+// A call with a clock, numbers[0], on the table that is argument 1, over the counters that are argument 0; now and then beside the same call by
+// the clock's low 32 bits. The reading is widened here by a signed difference.
+static uint64_t timed(function *full, function *by_reading, const lent *arguments, const uint64_t *numbers) {
+    static uint8_t low_table[MOST];
+    coghammer_counters low_counters;
+    uint64_t code = call(full, arguments, numbers);
+    if (chance(70)) return code;
+    lent again[6];
+    memcpy(again, arguments, sizeof again);
+    again[0].after = &low_counters, again[1].after = low_table;
+    uint64_t low_code = call(by_reading, again, numbers), told = 77, before = 77;
+    bool unsound = COGHAMMER_NUMBER(code) == 1, has_clock = arguments[1].len >= HEADER;
+    uint64_t last = has_clock ? clock_in(arguments[1].bytes) : 0;
+    int32_t difference = (int32_t)((uint32_t)numbers[0] - (uint32_t)last);
+    bool given = difference >= 0 && last <= UINT64_MAX - (uint64_t)difference;
+    uint64_t wide = last + (uint64_t)difference;
+    uint64_t number = call(full_clock, (lent[6]){{arguments[1].bytes, arguments[1].len, NULL}, {&before, 8, &told}}, numbers);
+    check(number == 1 ? unsound : number == (given ? 0 : 2), "a full clock has another number");
+    check(told == (number ? before : wide), "another full clock was told");
+    readings[given]++;
+    if (unsound || !given) {
+        check(low_code == (unsound ? 1 : 2), "a reading that gives no clock has another number");
+        check(memcmp(low_table, arguments[1].bytes, arguments[1].len) == 0, "a refused reading wrote to the table");
+    } else if (wide == numbers[0]) {
+        check(low_code == code, "a call by a reading gave another answer than by its clock");
+        check(memcmp(low_table, arguments[1].after, arguments[1].len) == 0, "a call by a reading left another table than by its clock");
+        check(memcmp(&low_counters, arguments[0].after, sizeof low_counters) == 0, "a call by a reading was counted otherwise than by its clock");
+    }
+    return code;
+}
+
 static uint64_t receive(uint8_t *memory, size_t len, const peer *from, uint64_t clock) {
-    return call(datagram, (lent[6]){{&counters, sizeof counters, &next_counters}, {memory, len, next_table},
-                                    {from->address, about(from->len), NULL}, {from->key, about(64), NULL}, {wire, wire_len, NULL}},
-                (uint64_t[]){clock, chance(95) ? unix_time : any_size(), from->udp});
+    return timed(datagram, datagram_low,
+                 (lent[6]){{&counters, sizeof counters, &next_counters}, {memory, len, next_table},
+                           {from->address, about(from->len), NULL}, {from->key, about(64), NULL}, {wire, wire_len, NULL}},
+                 (uint64_t[]){clock, chance(95) ? unix_time : any_size(), from->udp});
+}
+
+static uint64_t sweep_at(uint8_t *memory, size_t len, uint64_t clock) {
+    return timed(sweep, sweep_low, (lent[6]){{&counters, sizeof counters, &next_counters}, {memory, len, next_table}}, (uint64_t[]){clock});
 }
 
 static uint64_t record_ping(uint8_t *memory, size_t len, peer *to, uint64_t clock) {
     uint8_t hash[33];
     fill(hash, 33);
-    uint64_t number = call(ping_sent, (lent[6]){{&counters, sizeof counters, &next_counters}, {memory, len, next_table}, {to->key, about(64), NULL},
-                                                {to->address, about(to->len), NULL}, {hash, about(32), NULL}},
-                           (uint64_t[]){clock, to->udp ^ chance(3), any()});
+    uint64_t number = timed(ping_sent, ping_sent_low,
+                            (lent[6]){{&counters, sizeof counters, &next_counters}, {memory, len, next_table}, {to->key, about(64), NULL},
+                                      {to->address, about(to->len), NULL}, {hash, about(32), NULL}},
+                            (uint64_t[]){clock, to->udp ^ chance(3), any()});
     if (number == 0) memcpy(to->hash, hash, 33); // its pong names this one
     return number;
 }
@@ -571,7 +634,7 @@ static bool step(uint8_t *memory, size_t len, uint64_t clock) {
     peer *p = &peers[below(PEERS)];
     uint64_t code;
     switch (below(8)) {
-    case 0: code = call(sweep, (lent[6]){{&counters, sizeof counters, &next_counters}, {memory, len, next_table}}, (uint64_t[]){clock}); break;
+    case 0: code = sweep_at(memory, len, clock); break;
     case 1:
     case 2: code = record_ping(memory, len, p, clock); break;
     case 3: find_closest(memory, len); return false;
@@ -597,7 +660,7 @@ static void sound_step(void) {
     memcpy(table, next_table, size);
     now = clock;
     if (!chance(5)) return;
-    uint64_t code = call(sweep, (lent[6]){{&counters, sizeof counters, &next_counters}, {table, size, next_table}}, (uint64_t[]){now});
+    uint64_t code = sweep_at(table, size, now);
     check(code == 0, "an accepted call left a table that isn't sound");
     counted(code, table, size);
     memcpy(table, next_table, size);
@@ -613,6 +676,7 @@ static void burst_step(void) {
     static size_t lengths[ROOM + 1];
     static uint16_t ports[ROOM + 1];
     static uint64_t millis[ROOM + 1], times[ROOM + 1];
+    static uint32_t low_millis[ROOM + 1];
     size_t count = chance(80) ? below(COGHAMMER_BURST + 1) : below(ROOM), total = 0, len = size;
     for (size_t i = 0; i < count; i++) {
         peer *p = &peers[below(PEERS)];
@@ -627,6 +691,7 @@ static void burst_step(void) {
         memcpy(addresses + 17 * i + 1, p->address, 16);
         ports[i] = (uint16_t)(p->udp ^ chance(3));
         millis[i] = later();
+        low_millis[i] = (uint32_t)(chance(95) ? millis[i] : any());
         times[i] = unix_time + chance(5);
     }
     fill(numbers, sizeof numbers);
@@ -650,10 +715,12 @@ static void burst_step(void) {
         any_table[chance(50) ? below(48) : below(size)] ^= (uint8_t)(1 + below(255));
         if (chance(10)) len = below(MOST);
     }
-    uint64_t number = call(burst, (lent[10]){{&counters, sizeof counters, &next_counters}, {memory, len, next_table}, {numbers, lent_as[0], told},
-                                             {buffer, lent_as[1], NULL}, {lengths, n * sizeof lengths[0], NULL}, {signers, lent_as[3], NULL},
-                                             {addresses, lent_as[4], NULL}, {ports, lent_as[5] * 2, NULL}, {millis, lent_as[6] * 8, NULL},
-                                             {times, lent_as[7] * 8, NULL}},
+    bool by_readings = chance(40);
+    lent clocks = by_readings ? (lent){low_millis, lent_as[6] * 4, NULL} : (lent){millis, lent_as[6] * 8, NULL};
+    uint64_t number = call(by_readings ? burst_low : burst,
+                           (lent[10]){{&counters, sizeof counters, &next_counters}, {memory, len, next_table}, {numbers, lent_as[0], told},
+                                      {buffer, lent_as[1], NULL}, {lengths, n * sizeof lengths[0], NULL}, {signers, lent_as[3], NULL},
+                                      {addresses, lent_as[4], NULL}, {ports, lent_as[5] * 2, NULL}, clocks, {times, lent_as[7] * 8, NULL}},
                            NULL);
     check(number == (whole ? 0 : 28), "a burst gave another number");
     bursts[!whole]++;
@@ -668,8 +735,10 @@ static void burst_step(void) {
         memcpy(wide, addresses + 17 * i + 1, 16);
         bool empty = true;
         for (int k = 0; k < 64; k++) empty = empty && !signers[64 * i + (size_t)k];
-        uint32_t code = coghammer_datagram(&counters, one_by_one, len, (coghammer_millis){millis[i]}, (coghammer_unix){times[i]}, wide, addresses[17 * i], ports[i], signers + 64 * i, empty ? 0 : 64,
-                                           buffer + at, lengths[i]);
+        uint32_t code = by_readings ? coghammer_datagram_low(&counters, one_by_one, len, (coghammer_low_millis){low_millis[i]}, (coghammer_unix){times[i]}, wide, addresses[17 * i],
+                                                             ports[i], signers + 64 * i, empty ? 0 : 64, buffer + at, lengths[i])
+                                    : coghammer_datagram(&counters, one_by_one, len, (coghammer_millis){millis[i]}, (coghammer_unix){times[i]}, wide, addresses[17 * i],
+                                                         ports[i], signers + 64 * i, empty ? 0 : 64, buffer + at, lengths[i]);
         check(COGHAMMER_NUMBER(code) == told[i], "a datagram in a burst has another number than by itself");
         reached[told[i]]++;
     }
@@ -677,8 +746,7 @@ static void burst_step(void) {
     check(memcmp(&counters, &next_counters, sizeof counters) == 0, "a burst was counted otherwise than its datagrams by themselves");
     if (memory != table) return;
     memcpy(table, next_table, size);
-    now = 0;
-    for (int i = 32; i < 40; i++) now = now << 8 | table[i];
+    now = clock_in(table);
 }
 
 // The same calls on a table with some bytes changed, mostly where a count, a flag or a time stands, or of another length.
@@ -741,6 +809,7 @@ int main(int argc, char **argv) {
     } while ((double)(t.tv_sec - start.tv_sec) + (double)(t.tv_nsec - start.tv_nsec) / 1e9 < seconds);
     printf("counted calls by answer:");
     for (int i = 0; i < 19; i++) printf(" %d: %" PRIu64 "%s", i, reached[i], i < 18 ? "," : "\n");
+    printf("calls by readings: %" PRIu64 " with a clock, %" PRIu64 " with none\n", readings[1], readings[0]);
     printf("bursts: %" PRIu64 " whole, %" PRIu64 " refused\n", bursts[0], bursts[1]);
     printf("boot lists read by end: 0: %" PRIu64 ", 19: %" PRIu64 ", 22: %" PRIu64 "\n", ends[0], ends[19], ends[22]);
     printf("seed %" PRIu64 ": %" PRIu64 " calls on %u tables, nothing failed\n", seed, calls, tables);

@@ -8,9 +8,10 @@ use Rattle.octets.specs.Octets.{Bytes, Slice, part, sameBytes}
 use Rattle.octets.proofs.Laws.{slice-part}
 use Rattle.lists.specs.Lists.{All}
 use Rattle.node.specs.Nodes.{isAddressSize}
+use Rattle.call_burst_lists.specs.Lists.{Burst, IsBurst, isWhole, signerIn, addressIn}
 use Rattle.call_history.specs.Model.{Call}
 use Rattle.call_history.specs.Chain.{IsCall}
-use Rattle.call_burst.specs.Burst.{Burst, IsBurst, isWhole, signerIn, addressIn, callsFrom, callsOf}
+use Rattle.call_burst.specs.Burst.{callsFrom, callsOf}
 
 no-bytes : Slice []
 no-bytes = record { bytes = λ i. omega arith; size = omega arith }

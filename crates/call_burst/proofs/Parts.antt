@@ -1,74 +1,68 @@
--- The parts that the code takes of a burst's lists are those of the definitions. Assumes nothing.
-use mathlib.Core.Path.{_≡_, sym, ap, _∙_}
-use mathlib.Core.Bool.{true, false}
-use mathlib.Core.List.{[]}
-use Prim.Native.Nat.{ℕ, _+_, _*_, _-_, _≤_}
-use native.Mathlib.Nat.{sub-self, add-sub-cancel-left}
-use native.Mathlib.Omega.{arith}
-use lib.ListN.{getD, take, drop, replicate}
-use Rattle.octets.specs.Octets.{Bytes, part, sameBytes}
-use Rattle.octets.proofs.Laws.{part-part, getD-part}
-use Rattle.node.specs.Nodes.{isAddressSize}
-use Rattle.packet_model.proofs.From.{address-range}
-use Rattle.call_history.specs.Model.{datagram}
-use Rattle.call_model.specs.Calls.{answerOn, bytesAfter}
+-- One datagram of a burst, with its parts as the code takes them, is the call of the definitions. Assumes nothing.
+use mathlib.Core.Path.{_≡_, refl, ap, _∙_}
+use mathlib.Core.Bool.{Bool, true, false}
+use mathlib.Core.List.{List}
+use Prim.Native.Nat.{ℕ, _*_}
+use lib.ListN.{getD}
+use Rattle.octets.specs.Octets.{Bytes, part}
+use Rattle.node.specs.declared.MonotonicMillis.{MonotonicMillis}
+use Rattle.clock32.specs.declared.LowMillis.{LowMillis}
+use Rattle.call_burst_lists.specs.Lists.{Burst, signerIn, addressIn}
+use Rattle.call_burst_lists.specs.Times.{timesBy}
+use Rattle.call_history.specs.Model.{Call, datagram}
+use Rattle.call_model.specs.Calls.{bytesAfter}
 use Rattle.call_model.specs.Reading.{reading}
 use Rattle.call_answer.specs.declared.Received.{Received}
 use Rattle.call_answer.specs.Answer.{numberOf}
 use Rattle.call_datagram.specs.Received.{received}
 use Rattle.call_datagram.proofs.Answered.{answer-number}
-use Rattle.call_burst.specs.Burst.{Burst, signerIn, addressIn, callAt}
+use Rattle.call_low.specs.Got.{bytesLow, receivedLow}
+use Rattle.call_low.proofs.Front.{low-number}
+use Rattle.call_burst.specs.declared.Time.{Time}
+use Rattle.call_burst.specs.declared.Time.the-variants.{Full, Reading}
+use Rattle.call_burst.specs.Burst.{callAt}
+use Rattle.call_burst.specs.Steps.{answerBy, bytesBy, timeAt, isReading, numberIn}
 
-pub taken : (s : Bytes) (at n : ℕ) → take (at + n - at) (drop at s) ≡ part s at n
-unfolding part
-taken s at n = ap (λ (k : ℕ). take k (drop at s)) (add-sub-cancel-left at n)
+-- ---- the milliseconds of datagram i
 
-none : (s : Bytes) (at : ℕ) → take (at - at) (drop at s) ≡ []
-none s at = ap (λ (k : ℕ). take k (drop at s)) (sub-self at)
+module _ (millis readings : List ℕ) (i : ℕ) where
+  time-kind : (low : Bool) → isReading (timeAt low millis readings i) ≡ low
+  time-kind true = refl
+  time-kind false = refl
 
-module _ (s : Bytes) (at : ℕ) where
-  pub signer-none : sameBytes (take (at + 64 - at) (drop at s)) (replicate 64 0) ≡ true → take (at - at) (drop at s) ≡ signerIn (part s at 64)
-  signer-none h =
-      let e : sameBytes (part s at 64) (replicate 64 0) ≡ true = ap (λ (k : Bytes). sameBytes k (replicate 64 0)) (sym (taken s at 64)) ∙ h in
-      rw e (none s at)
+  time-number : (low : Bool) → numberIn (timeAt low millis readings i) ≡ getD (timesBy low millis readings) i 0
+  time-number true = refl
+  time-number false = refl
 
-  pub signer-key : sameBytes (take (at + 64 - at) (drop at s)) (replicate 64 0) ≡ false → take (at + 64 - at) (drop at s) ≡ signerIn (part s at 64)
-  signer-key h =
-      let e : sameBytes (part s at 64) (replicate 64 0) ≡ false = ap (λ (k : Bytes). sameBytes k (replicate 64 0)) (sym (taken s at 64)) ∙ h in
-      rw e (taken s at 64)
+-- ---- a datagram at its milliseconds: its number, and the bytes that it leaves
 
-  size-at : getD (part s at 17) 0 0 ≡ getD s at 0
-  size-at = getD-part s at 17 0 (omega arith) ∙ ap (λ (k : ℕ). getD s k 0) (omega arith)
+module _ (s : Bytes) (time : Time) (unix : ℕ) (a : Bytes) (port : ℕ) (key g : Bytes) where
+  abbrev asked : Call
+  asked = datagram (numberIn time) unix a port key g
 
-  pub size-most : isAddressSize (getD s at 0) ≡ true → getD s at 0 ≤ 16
-  size-most h = address-range (getD s at 0) h .1
+  pub at-full : {t : MonotonicMillis} {r : Received} {n : ℕ} {s′ : Bytes} → time ≡ Full t → r ≡ received s (t .0) unix a port key g → n ≡ numberOf r
+      → s′ ≡ bytesAfter reading s (datagram (t .0) unix a port key g) → (n ≡ answerBy (isReading time) s asked) × (s′ ≡ bytesBy (isReading time) s asked)
+  at-full {t = t} is e e′ e″ = rw is (e′ ∙ ap numberOf e ∙ answer-number s (t .0) (record { 0 = unix }) a port key g, e″)
 
-  pub address-held : isAddressSize (getD s at 0) ≡ true → take (at + 1 + getD s at 0 - (at + 1)) (drop (at + 1) s) ≡ addressIn (part s at 17)
-  address-held h =
-      let most : getD s at 0 ≤ 16 = size-most h in
-      rw (size-at, h) (taken s (at + 1) (getD s at 0) ∙ sym (part-part s at 17 1 (getD s at 0) (omega arith)))
-
-  pub address-none : isAddressSize (getD s at 0) ≡ false → take (at - at) (drop at s) ≡ addressIn (part s at 17)
-  address-none h = rw (size-at, h) (none s at)
+  pub at-reading : {t : LowMillis} {r : Received} {n : ℕ} {s′ : Bytes} → time ≡ Reading t → r ≡ receivedLow s (t .0) unix a port key g → n ≡ numberOf r
+      → s′ ≡ bytesLow s (datagram (t .0) unix a port key g) → (n ≡ answerBy (isReading time) s asked) × (s′ ≡ bytesBy (isReading time) s asked)
+  at-reading {t = t} is e e′ e″ = rw is (e′ ∙ ap numberOf e ∙ low-number s (t .0) unix a port key g, e″)
 
 -- datagram i with its parts as they were taken
-module _ (b : Burst) (i at : ℕ) (s a key g : Bytes) (ea : a ≡ addressIn (part (b .addresses) (17 * i) 17))
+module _ (low : Bool) (millis readings : List ℕ) (b : Burst) (is : b .millis ≡ timesBy low millis readings) (i at : ℕ) (s a key g : Bytes) (time : Time)
+    (et : time ≡ timeAt low millis readings i) (ea : a ≡ addressIn (part (b .addresses) (17 * i) 17))
     (ek : key ≡ signerIn (part (b .signers) (64 * i) 64)) (eg : g ≡ part (b .buffer) at (getD (b .lengths) i 0)) where
-  abbrev now : ℕ
-  now = getD (b .millis) i 0
+  abbrev call : Call
+  call = datagram (numberIn time) (getD (b .unix) i 0) a (getD (b .ports) i 0) key g
 
-  abbrev unix : ℕ
-  unix = getD (b .unix) i 0
+  same : call ≡ callAt b i at
+  same = rw (is, ea, ek, eg, et, time-number millis readings i low)
 
-  abbrev port : ℕ
-  port = getD (b .ports) i 0
+  kind : isReading time ≡ low
+  kind = ap isReading et ∙ time-kind millis readings i low
 
-  same : datagram now unix a port key g ≡ callAt b i at
-  same = rw (ea, ek, eg)
+  pub handed-bytes : {t : Bytes} → t ≡ bytesBy (isReading time) s call → t ≡ bytesBy low s (callAt b i at)
+  handed-bytes e = e ∙ ap (λ (l : Bool). bytesBy l s call) kind ∙ ap (bytesBy low s) same
 
-  pub handed-bytes : (t : Bytes) → t ≡ bytesAfter reading s (datagram now unix a port key g) → t ≡ bytesAfter reading s (callAt b i at)
-  handed-bytes t e = e ∙ ap (bytesAfter reading s) same
-
-  pub handed-number : (r : Received) (n : ℕ) → r ≡ received s now unix a port key g → n ≡ numberOf r → n ≡ answerOn reading s (callAt b i at)
-  handed-number r n e e′ =
-      e′ ∙ ap numberOf e ∙ answer-number s now (record { 0 = unix }) a port key g ∙ ap (answerOn reading s) same
+  pub handed-number : {n : ℕ} → n ≡ answerBy (isReading time) s call → n ≡ answerBy low s (callAt b i at)
+  handed-number e = e ∙ ap (λ (l : Bool). answerBy l s call) kind ∙ ap (answerBy low s) same

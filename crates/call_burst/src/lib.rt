@@ -2,98 +2,73 @@
 ghost use mathlib.Core.Path.{_≡_};
 ghost use mathlib.Core.Bool.{true};
 ghost use Prim.Native.Nat.{_+_, _*_, _≤_, _<_};
-ghost use lib.Dec.{eqb};
 ghost use lib.ListN.{length, getD, set};
-ghost use Rattle.octets.specs.Octets.{part};
+ghost use Rattle.call_burst_lists.specs.Lists.{burstOf, isWhole};
+ghost use Rattle.call_burst_lists.specs.Times.{timesBy, lentBy};
 ghost use Rattle.call_history.specs.Chain.{answersOn, bytesAfterAll};
-ghost use Rattle.call_model.specs.Calls.{answerOn, bytesAfter};
-ghost use Rattle.call_model.specs.Reading.{reading};
-ghost use Rattle.call_burst.specs.Burst.{burstOf, sum, isWhole, burstNumber, signerIn, addressIn, callAt, callsFrom, tableAfter, listAfter};
+ghost use Rattle.call_history.specs.Model as model;
+ghost use Rattle.call_burst.specs.Burst.{burstNumber, callAt, callsFrom, tableAfter, listAfter, lowTableAfter, lowListAfter};
+ghost use Rattle.call_burst.specs.Steps.{answerBy, bytesBy, tableBy, listBy, timeAt, isReading, numberIn};
+use clock32::LowMillis;
 use node::MonotonicMillis;
 use node::UnixSeconds;
 
-// Whether datagrams of these lengths take exactly `size` bytes. What is left falls, so no sum can wrap.
-fn adds_up(lengths: &[usize], size: usize) -> bool
-    ensures { λ r. ⌜ r ≡ eqb (sum (now (lengths .entry))) size ⌝ }
+// The milliseconds of a datagram: full, or a reading of 32 bits.
+pub enum Time {
+    Full(MonotonicMillis),
+    Reading(LowMillis),
+}
+
+// The milliseconds of datagram `i`.
+fn time_at(millis: &[u64], readings: &[u32], i: usize, low: bool) -> Time
+    requires { ⌜ i < length (timesBy low (now millis) (now readings)) ⌝ }
+    ensures { λ r. ⌜ r ≡ timeAt low (now (millis .entry)) (now (readings .entry)) i ⌝ }
 {
-    let mut left = size;
-    let mut i = 0;
-    while i < lengths.len() {
-        let len = lengths[i];
-        if left < len {
-            return false;
+    if low {
+        return Time::Reading(LowMillis(readings[i]));
+    }
+    Time::Full(MonotonicMillis(millis[i]))
+}
+
+// A datagram at its milliseconds. The answer number.
+fn receive(
+    table: &mut [u8],
+    time: Time,
+    unix: UnixSeconds,
+    address: &[u8],
+    port: u16,
+    signer: &[u8],
+    datagram: &[u8],
+) -> u8
+    ensures { λ r. ⌜ r ≡ answerBy (isReading time) (now (table .entry)) (model.datagram (numberIn time) (unix .0) (now (address .entry)) port (now (signer .entry)) (now (datagram .entry))) ⌝ }
+    ensures { λ _. ⌜ now (table .exit) ≡ bytesBy (isReading time) (now (table .entry)) (model.datagram (numberIn time) (unix .0) (now (address .entry)) port (now (signer .entry)) (now (datagram .entry))) ⌝ }
+{
+    match time {
+        Time::Full(clock) => {
+            let received = call_datagram::datagram_on(
+                table,
+                clock,
+                unix,
+                address,
+                port,
+                signer,
+                datagram,
+            );
+            call_answer::number(received)
         }
-        left -= len;
-        i += 1;
+        Time::Reading(reading) => {
+            let received = call_low::datagram_low_on(
+                table,
+                reading,
+                unix,
+                address,
+                port,
+                signer,
+                datagram,
+            );
+            call_answer::number(received)
+        }
     }
-    left == 0
-}
-
-// Whether the lists make a burst; `room` is how many numbers the lent list has.
-fn is_whole(
-    buffer: &[u8],
-    lengths: &[usize],
-    signers: &[u8],
-    addresses: &[u8],
-    ports: &[u16],
-    millis: &[u64],
-    unix: &[u64],
-    room: usize,
-) -> bool
-    ensures { λ r. ⌜ r ≡ isWhole (burstOf (now (buffer .entry)) (now (lengths .entry)) (now (signers .entry)) (now (addresses .entry)) (now (ports .entry)) (now (millis .entry)) (now (unix .entry))) room ⌝ }
-{
-    let n = lengths.len();
-    if 32 < n {
-        return false;
-    }
-    if signers.len() != 64 * n {
-        return false;
-    }
-    if addresses.len() != 17 * n {
-        return false;
-    }
-    if ports.len() != n {
-        return false;
-    }
-    if millis.len() != n {
-        return false;
-    }
-    if unix.len() != n {
-        return false;
-    }
-    if room != n {
-        return false;
-    }
-    adds_up(lengths, buffer.len())
-}
-
-// The key of datagram `i`; one of zeros is the empty key.
-fn signer_at(signers: &[u8], i: usize) -> &[u8]
-    requires { ⌜ (64 * i + 64 ≤ length (now signers)) × (i < 32) ⌝ }
-    ensures { λ r. ⌜ now r ≡ signerIn (part (now (signers .entry)) (64 * i) 64) ⌝ }
-{
-    let zeros = [0u8; 64];
-    let at = 64 * i;
-    let end = at + 64;
-    if octets::same_bytes(&signers[at..end], &zeros) {
-        return &signers[at..at];
-    }
-    &signers[at..end]
-}
-
-// The address of datagram `i`'s sender; one of a wrong length is the empty address.
-fn address_at(addresses: &[u8], i: usize) -> &[u8]
-    requires { ⌜ (17 * i + 17 ≤ length (now addresses)) × (i < 32) ⌝ }
-    ensures { λ r. ⌜ now r ≡ addressIn (part (now (addresses .entry)) (17 * i) 17) ⌝ }
-{
-    let at = 17 * i;
-    let len = addresses[at] as usize;
-    let from = at + 1;
-    if node::is_address_size(len) {
-        let end = from + len;
-        return &addresses[from..end];
-    }
-    &addresses[at..at]
 }
 
 // Hands over datagram `i`, whose bytes begin at index `at`, and writes its number.
@@ -106,27 +81,28 @@ fn hand_over(
     addresses: &[u8],
     ports: &[u16],
     millis: &[u64],
+    readings: &[u32],
     unix: &[u64],
     i: usize,
     at: usize,
+    low: bool,
 )
     requires { ⌜ (i < 32) × (i < length (now numbers)) × (i < length (now lengths)) × (at + getD (now lengths) i 0 ≤ length (now buffer)) ⌝ }
     requires { ⌜ (64 * i + 64 ≤ length (now signers)) × (17 * i + 17 ≤ length (now addresses)) ⌝ }
-    requires { ⌜ (i < length (now ports)) × (i < length (now millis)) × (i < length (now unix)) ⌝ }
-    ensures { λ _. ⌜ now (table .exit) ≡ bytesAfter reading (now (table .entry)) (callAt (burstOf (now (buffer .entry)) (now (lengths .entry)) (now (signers .entry)) (now (addresses .entry)) (now (ports .entry)) (now (millis .entry)) (now (unix .entry))) i at) ⌝ }
-    ensures { λ _. ⌜ now (numbers .exit) ≡ set (now (numbers .entry)) i (answerOn reading (now (table .entry)) (callAt (burstOf (now (buffer .entry)) (now (lengths .entry)) (now (signers .entry)) (now (addresses .entry)) (now (ports .entry)) (now (millis .entry)) (now (unix .entry))) i at)) ⌝ }
+    requires { ⌜ (i < length (now ports)) × (i < length (timesBy low (now millis) (now readings))) × (i < length (now unix)) ⌝ }
+    ensures { λ _. ⌜ now (table .exit) ≡ bytesBy low (now (table .entry)) (callAt (lentBy low (now (buffer .entry)) (now (lengths .entry)) (now (signers .entry)) (now (addresses .entry)) (now (ports .entry)) (now (millis .entry)) (now (readings .entry)) (now (unix .entry))) i at) ⌝ }
+    ensures { λ _. ⌜ now (numbers .exit) ≡ set (now (numbers .entry)) i (answerBy low (now (table .entry)) (callAt (lentBy low (now (buffer .entry)) (now (lengths .entry)) (now (signers .entry)) (now (addresses .entry)) (now (ports .entry)) (now (millis .entry)) (now (readings .entry)) (now (unix .entry))) i at)) ⌝ }
 {
     let end = at + lengths[i];
-    let received = call_datagram::datagram_on(
+    numbers[i] = receive(
         table,
-        MonotonicMillis(millis[i]),
+        time_at(millis, readings, i, low),
         UnixSeconds(unix[i]),
-        address_at(addresses, i),
+        call_burst_lists::address_at(addresses, i),
         ports[i],
-        signer_at(signers, i),
+        call_burst_lists::signer_at(signers, i),
         &buffer[at..end],
     );
-    numbers[i] = call_answer::number(received);
 }
 
 // Hands over the datagrams of a whole burst, in order.
@@ -139,11 +115,13 @@ fn hand_over_all(
     addresses: &[u8],
     ports: &[u16],
     millis: &[u64],
+    readings: &[u32],
     unix: &[u64],
+    low: bool,
 )
-    requires { ⌜ isWhole (burstOf (now buffer) (now lengths) (now signers) (now addresses) (now ports) (now millis) (now unix)) (length (now numbers)) ≡ true ⌝ }
-    ensures { λ _. ⌜ now (table .exit) ≡ bytesAfterAll (answerOn reading) (bytesAfter reading) (now (table .entry)) (callsFrom (burstOf (now (buffer .entry)) (now (lengths .entry)) (now (signers .entry)) (now (addresses .entry)) (now (ports .entry)) (now (millis .entry)) (now (unix .entry))) 0 0 (length (now (lengths .entry)))) ⌝ }
-    ensures { λ _. ⌜ now (numbers .exit) ≡ answersOn (answerOn reading) (bytesAfter reading) (now (table .entry)) (callsFrom (burstOf (now (buffer .entry)) (now (lengths .entry)) (now (signers .entry)) (now (addresses .entry)) (now (ports .entry)) (now (millis .entry)) (now (unix .entry))) 0 0 (length (now (lengths .entry)))) ⌝ }
+    requires { ⌜ isWhole (lentBy low (now buffer) (now lengths) (now signers) (now addresses) (now ports) (now millis) (now readings) (now unix)) (length (now numbers)) ≡ true ⌝ }
+    ensures { λ _. ⌜ now (table .exit) ≡ bytesAfterAll (answerBy low) (bytesBy low) (now (table .entry)) (callsFrom (lentBy low (now (buffer .entry)) (now (lengths .entry)) (now (signers .entry)) (now (addresses .entry)) (now (ports .entry)) (now (millis .entry)) (now (readings .entry)) (now (unix .entry))) 0 0 (length (now (lengths .entry)))) ⌝ }
+    ensures { λ _. ⌜ now (numbers .exit) ≡ answersOn (answerBy low) (bytesBy low) (now (table .entry)) (callsFrom (lentBy low (now (buffer .entry)) (now (lengths .entry)) (now (signers .entry)) (now (addresses .entry)) (now (ports .entry)) (now (millis .entry)) (now (readings .entry)) (now (unix .entry))) 0 0 (length (now (lengths .entry)))) ⌝ }
 {
     let mut at = 0;
     let mut i = 0;
@@ -157,13 +135,64 @@ fn hand_over_all(
             addresses,
             ports,
             millis,
+            readings,
             unix,
             i,
             at,
+            low,
         );
         at += lengths[i];
         i += 1;
     }
+}
+
+// One of the two bursts: with full milliseconds, or where `low` with readings; the other list is not looked at.
+fn burst_by(
+    table: &mut [u8],
+    numbers: &mut [u8],
+    buffer: &[u8],
+    lengths: &[usize],
+    signers: &[u8],
+    addresses: &[u8],
+    ports: &[u16],
+    millis: &[u64],
+    readings: &[u32],
+    unix: &[u64],
+    low: bool,
+) -> u8
+    ensures { λ r. ⌜ r ≡ burstNumber (lentBy low (now (buffer .entry)) (now (lengths .entry)) (now (signers .entry)) (now (addresses .entry)) (now (ports .entry)) (now (millis .entry)) (now (readings .entry)) (now (unix .entry))) (length (now (numbers .entry))) ⌝ }
+    ensures { λ _. ⌜ now (table .exit) ≡ tableBy low (now (table .entry)) (lentBy low (now (buffer .entry)) (now (lengths .entry)) (now (signers .entry)) (now (addresses .entry)) (now (ports .entry)) (now (millis .entry)) (now (readings .entry)) (now (unix .entry))) (length (now (numbers .entry))) ⌝ }
+    ensures { λ _. ⌜ now (numbers .exit) ≡ listBy low (now (table .entry)) (lentBy low (now (buffer .entry)) (now (lengths .entry)) (now (signers .entry)) (now (addresses .entry)) (now (ports .entry)) (now (millis .entry)) (now (readings .entry)) (now (unix .entry))) (now (numbers .entry)) ⌝ }
+{
+    let room = numbers.len();
+    if !call_burst_lists::is_whole(
+        buffer,
+        lengths,
+        signers,
+        addresses,
+        ports,
+        millis,
+        readings,
+        unix,
+        room,
+        low,
+    ) {
+        return numbers::NOT_WHOLE;
+    }
+    hand_over_all(
+        table,
+        numbers,
+        buffer,
+        lengths,
+        signers,
+        addresses,
+        ports,
+        millis,
+        readings,
+        unix,
+        low,
+    );
+    numbers::DONE
 }
 
 // The datagrams of a burst handed over one after the other, each one's number into the lent list. The answer number: 28 is given before
@@ -183,20 +212,8 @@ pub fn burst_on(
     ensures { λ _. ⌜ now (table .exit) ≡ tableAfter (now (table .entry)) (burstOf (now (buffer .entry)) (now (lengths .entry)) (now (signers .entry)) (now (addresses .entry)) (now (ports .entry)) (now (millis .entry)) (now (unix .entry))) (length (now (numbers .entry))) ⌝ }
     ensures { λ _. ⌜ now (numbers .exit) ≡ listAfter (now (table .entry)) (burstOf (now (buffer .entry)) (now (lengths .entry)) (now (signers .entry)) (now (addresses .entry)) (now (ports .entry)) (now (millis .entry)) (now (unix .entry))) (now (numbers .entry)) ⌝ }
 {
-    let room = numbers.len();
-    if !is_whole(
-        buffer,
-        lengths,
-        signers,
-        addresses,
-        ports,
-        millis,
-        unix,
-        room,
-    ) {
-        return numbers::NOT_WHOLE;
-    }
-    hand_over_all(
+    let none = [0u32; 1];
+    burst_by(
         table,
         numbers,
         buffer,
@@ -205,7 +222,40 @@ pub fn burst_on(
         addresses,
         ports,
         millis,
+        &none,
         unix,
-    );
-    numbers::DONE
+        false,
+    )
+}
+
+// The same with readings of 32 bits: each datagram's is widened by the table's clock at its turn.
+pub fn burst_low_on(
+    table: &mut [u8],
+    numbers: &mut [u8],
+    buffer: &[u8],
+    lengths: &[usize],
+    signers: &[u8],
+    addresses: &[u8],
+    ports: &[u16],
+    readings: &[u32],
+    unix: &[u64],
+) -> u8
+    ensures { λ r. ⌜ r ≡ burstNumber (burstOf (now (buffer .entry)) (now (lengths .entry)) (now (signers .entry)) (now (addresses .entry)) (now (ports .entry)) (now (readings .entry)) (now (unix .entry))) (length (now (numbers .entry))) ⌝ }
+    ensures { λ _. ⌜ now (table .exit) ≡ lowTableAfter (now (table .entry)) (burstOf (now (buffer .entry)) (now (lengths .entry)) (now (signers .entry)) (now (addresses .entry)) (now (ports .entry)) (now (readings .entry)) (now (unix .entry))) (length (now (numbers .entry))) ⌝ }
+    ensures { λ _. ⌜ now (numbers .exit) ≡ lowListAfter (now (table .entry)) (burstOf (now (buffer .entry)) (now (lengths .entry)) (now (signers .entry)) (now (addresses .entry)) (now (ports .entry)) (now (readings .entry)) (now (unix .entry))) (now (numbers .entry)) ⌝ }
+{
+    let none = [0u64; 1];
+    burst_by(
+        table,
+        numbers,
+        buffer,
+        lengths,
+        signers,
+        addresses,
+        ports,
+        &none,
+        readings,
+        unix,
+        true,
+    )
 }

@@ -15,7 +15,7 @@ use Rattle.entry.specs.declared.Entry.{Entry}
 use Rattle.bucket_model.specs.Contents.{Contents}
 use Rattle.bucket_model.specs.Rules.{ofKey, held, onSweep}
 use Rattle.bucket_model.proofs.Endpoint.{endpointsOf, same-endpoints, endpoint-heard, endpoint-pong, endpoint-pingSent}
-use Rattle.call_history.specs.Model.{Env, Call, datagram, pingSent, sweep, closest, Table, slot, bucketOf, next, Run}
+use Rattle.call_history.specs.Model.{Env, Call, datagram, pingSent, sweep, closest, unclocked, Table, slot, bucketOf, next, Run}
 use Rattle.call_history.specs.Demand3.{KeepsEndpoint}
 use Rattle.call_history.proofs.Step.{byDatagram, byAnswer, swept-bucket}
 use Rattle.call_history.proofs.Sound.{TableSound}
@@ -75,6 +75,7 @@ module _ (e : Env) (s : Table) (ok : TableSound e s) (X : Bytes) (p : Entry) (is
       (All-append At (ofKey X (onSweep now b .entries)) (ofKey X (onSweep now b .replacements)) (after .0) (after .1)))
       (λ _. still)
   endpoint-kept (closest target room) = byAnswer e (λ s′. Unmoved (bucketOf e s′ X)) s (closest target room) (λ _. still) (λ _. still)
+  endpoint-kept (unclocked c) = still
 
 pub keeps-endpoint : (e : Env) (r : Run e) → TableSound e (r .table) → (c : Call) → KeepsEndpoint e r c
 keeps-endpoint e r ok c X =

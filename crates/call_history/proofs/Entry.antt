@@ -18,7 +18,7 @@ use Rattle.entry.specs.declared.PingState.the-variants.{Quiet, Out}
 use Rattle.bucket_model.specs.Contents.{Contents}
 use Rattle.bucket_model.specs.Rules.{takesEntry, pingTimeout, millis, ofKey, isOf, held, isProved, isOverdue, pinged, ponged, heard, staysEntry, onPingSent, onPong, onHeard}
 use Rattle.bucket_model.proofs.View.{Mapped, own-heard, own-pong-stays, own-pong-takes, own-pinged, sweep-entry}
-use Rattle.call_history.specs.Model.{Env, Reading, Call, datagram, pingSent, sweep, closest, Table, slot, homeAt, bucketOf, Accepted, onDatagram, next, Run}
+use Rattle.call_history.specs.Model.{Env, Reading, Call, datagram, pingSent, sweep, closest, unclocked, Table, slot, homeAt, bucketOf, Accepted, onDatagram, next, Run}
 use Rattle.call_history.specs.Words.{entryOf, HasEntry, AcceptedSweep, OpenPing}
 use Rattle.call_history.specs.Demand3.{LosesEntry}
 use Rattle.call_history.proofs.Step.{byDatagram, byAnswer, swept-bucket}
@@ -98,6 +98,7 @@ module _ (e : Env) (s : Table) (ok : TableSound e s) (X : Bytes) (has : HasEntry
       (λ _. inl has)
   keeps-entry (closest target room) =
       inl (byAnswer e (λ s′. HasEntry e X s′) s (closest target room) (λ _. has) (λ _. has))
+  keeps-entry (unclocked c) = inl has
 
   -- what an accepted sweep leaves of the entry
   pub swept-entry : (now : ℕ) → Accepted e s (sweep now) → entryOf e X (next e s (sweep now)) ≡ select (staysEntry now) (entryOf e X s)

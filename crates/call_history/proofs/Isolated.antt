@@ -15,9 +15,9 @@ use Rattle.entry.specs.declared.Entry.{Entry}
 use Rattle.bucket_model.specs.Contents.{Contents}
 use Rattle.bucket_model.specs.Rules.{takesEntry, ofKey, held, isVerified, pinged, ponged, heard, staysEntry, onPingSent, onPong}
 use Rattle.bucket_model.proofs.View.{own-heard, own-pong-stays, own-pong-takes, own-pinged}
-use Rattle.call_history.specs.Model.{Env, Reading, refused, ping, pong, other, Call, datagram, pingSent, sweep, closest, Table, slot, bucketOf, packetRefusals, datagramRefusals, pingSentRefusals, answer, Accepted, onPacket, onDatagram, effect, next, Run}
+use Rattle.call_history.specs.Model.{Env, Reading, refused, ping, pong, other, Call, datagram, pingSent, sweep, closest, unclocked, Table, slot, bucketOf, packetRefusals, datagramRefusals, pingSentRefusals, answer, Accepted, onPacket, onDatagram, effect, next, Run}
 use Rattle.call_history.specs.Words.{entryOf, replacementOf, HasEntry}
-use Rattle.call_history.specs.Demand3.{clockReading, NotFalling, LeftOut, nothing, same, less, countSweep, entryLostAt, Isolated}
+use Rattle.call_history.specs.Demand3.{clockReading, Rises, NotFalling, LeftOut, nothing, same, less, countSweep, entryLostAt, Isolated}
 use Rattle.call_history.proofs.Step.{byAnswer, own-bucket, datagram-keyed, ping-allowed, sweep-accepted}
 use Rattle.call_history.proofs.Sound.{TableSound, next-sound}
 use Rattle.call_history.proofs.View.{other-datagram, other-pingSent}
@@ -146,7 +146,7 @@ swept-at e X p s a now h =
 
 -- the same call does the same to the entry in both
 same-entry : (e : Env) (X : Bytes) (p : Entry) (s₁ s₂ : Table) → At e X p s₁ → At e X p s₂
-    → (last : ℕ) → s₁ .clock ≤ last → s₂ .clock ≤ last → (c : Call) → last ≤ clockReading last c
+    → (last : ℕ) → s₁ .clock ≤ last → s₂ .clock ≤ last → (c : Call) → Rises last c
     → entryOf e X (next e s₁ c) ≡ entryOf e X (next e s₂ c)
 same-entry e X p s₁ s₂ a₁ a₂ last t₁ t₂ (datagram now unix address udp key bytes) h =
     byTest (sameBytes X key)
@@ -173,16 +173,25 @@ same-entry e X p s₁ s₂ a₁ a₂ last t₁ t₂ (closest target room) h =
   where
     unmoved : (s : Table) → entryOf e X (next e s (closest target room)) ≡ entryOf e X s
     unmoved s = byAnswer e (λ s′. entryOf e X s′ ≡ entryOf e X s) s (closest target room) (λ _. refl) (λ _. refl)
+same-entry e X p s₁ s₂ a₁ a₂ last t₁ t₂ (unclocked c) h = absurd h
 
 effect-clock : (e : Env) (s : Table) (last : ℕ) → s .clock ≤ last → (c : Call) → effect e s c .clock ≤ clockReading last c
 effect-clock e s last h (datagram now unix address udp key bytes) = omega arith
 effect-clock e s last h (pingSent now key address udp tcp hash) = omega arith
 effect-clock e s last h (sweep now) = omega arith
 effect-clock e s last h (closest target room) = omega arith
+effect-clock e s last h (unclocked c) = omega arith
 
-next-clock : (e : Env) (s : Table) (last : ℕ) → s .clock ≤ last → (c : Call) → last ≤ clockReading last c → next e s c .clock ≤ clockReading last c
+rises : (last : ℕ) (c : Call) → Rises last c → last ≤ clockReading last c
+rises last (datagram now unix address udp key bytes) h = h
+rises last (pingSent now key address udp tcp hash) h = h
+rises last (sweep now) h = h
+rises last (closest target room) h = omega arith
+rises last (unclocked c) h = absurd h
+
+next-clock : (e : Env) (s : Table) (last : ℕ) → s .clock ≤ last → (c : Call) → Rises last c → next e s c .clock ≤ clockReading last c
 next-clock e s last h c g =
-    byAnswer e (λ s′. s′ .clock ≤ clockReading last c) s c (λ _. effect-clock e s last h c) (λ _. omega arith)
+    byAnswer e (λ s′. s′ .clock ≤ clockReading last c) s c (λ _. effect-clock e s last h c) (λ _. omega (arith, rises last c g))
 
 -- ---- two lists of calls
 

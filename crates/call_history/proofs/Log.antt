@@ -19,7 +19,7 @@ use Rattle.bucket_model.specs.Contents.{Contents}
 use Rattle.bucket_model.specs.Rules.{takesEntry, millis, ofKey, held, isOut, isProved, pinged, ponged, heard, staysEntry, staysReplacement, onPingSent, onPong, onHeard, onSweep, newEntry}
 use Rattle.bucket_model.proofs.View.{Holds, Mapped, keptEntries, keptReplacements, own-heard, own-pong-stays, own-pong-takes, own-pinged, own-joined, own-sweep, ofKey-kept}
 use Rattle.bucket_model.proofs.Promotion.{ofKey-promoted, ofKey-remaining}
-use Rattle.call_history.specs.Model.{Env, Call, datagram, pingSent, sweep, closest, slot, bucketOf, answer, next, Event, Run, advance}
+use Rattle.call_history.specs.Model.{Env, Call, datagram, pingSent, sweep, closest, unclocked, slot, bucketOf, answer, next, Event, Run, advance}
 use Rattle.call_history.specs.Words.{isPong, PingAt, pongFrom, OpenPing, begins, proved}
 use Rattle.call_history.proofs.Step.{byDatagram, byAnswer, ping-allowed, swept-bucket}
 use Rattle.call_history.proofs.Sound.{TableSound}
@@ -212,3 +212,6 @@ module _ (e : Env) where
         (record { no-ping = λ t z. z; no-pong = refl; no-start = refl }) (bucketOf e (r .table) X) (known X) in
         byAnswer e (λ s′. KnownIn X (advance e r (closest target room) .log) (bucketOf e s′ X)) (r .table) (closest target room)
         (λ _. kn) (λ _. kn)
+    advance-known (unclocked c) X =
+        shift-in X (record { given = r .table; call = unclocked c }) (r .log)
+        (record { no-ping = λ t z. z; no-pong = refl; no-start = refl }) (bucketOf e (r .table) X) (known X)

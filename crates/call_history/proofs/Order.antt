@@ -14,7 +14,7 @@ use Rattle.entry.specs.declared.Entry.{Entry}
 use Rattle.bucket_model.specs.Contents.{Contents}
 use Rattle.bucket_model.specs.Rules.{isOf, ofKey, held, onPingSent}
 use Rattle.bucket_model.proofs.Promotion.{Below, rising-heard, rising-pong, rising-pingSent, rising-sweep}
-use Rattle.call_history.specs.Model.{Env, Call, datagram, pingSent, sweep, closest, Table, slot, bucketAt, bucketOf, answer, Accepted, onDatagram, next, Event, Run, advance}
+use Rattle.call_history.specs.Model.{Env, Call, datagram, pingSent, sweep, closest, unclocked, Table, slot, bucketAt, bucketOf, answer, Accepted, onDatagram, next, Event, Run, advance}
 use Rattle.call_history.specs.Words.{OwnBucket, latest, begins, began}
 use Rattle.call_history.specs.Demand3.{InOrder}
 use Rattle.call_history.proofs.Step.{byDatagram, byAnswer, datagram-keyed, ping-allowed, byBucket, swept-bucket}
@@ -133,3 +133,4 @@ module _ (e : Env) where
         (λ _. in-order i)
     advance-order (closest target room) i =
         byAnswer e (λ s′. InLine s′ i) (r .table) (closest target room) (λ _. in-order i) (λ _. in-order i)
+    advance-order (unclocked c) i = in-order i

@@ -20,7 +20,7 @@ use Rattle.bucket_model.specs.Facts.{SeatFor}
 use Rattle.bucket_model.proofs.Keys.{promoted-or-remaining}
 use Rattle.bucket_model.proofs.View.{Mapped, own-heard, own-pong-stays, own-pinged, own-sweep, ofKey-kept}
 use Rattle.bucket_model.proofs.Promotion.{provedEntry, takenBefore, promoted-room, room-promoted, ofKey-remaining, lower-before}
-use Rattle.call_history.specs.Model.{Env, Reading, Call, datagram, pingSent, sweep, closest, Table, slot, bucketOf, Accepted, onDatagram, next, Event, Run}
+use Rattle.call_history.specs.Model.{Env, Reading, Call, datagram, pingSent, sweep, closest, unclocked, Table, slot, bucketOf, Accepted, onDatagram, next, Event, Run}
 use Rattle.call_history.specs.Words.{entryOf, replacementOf, HasEntry, AcceptedSweep, began, proved, ProvedReplacement, keptEntries, keptReplacements, takenAfter, takenAhead}
 use Rattle.call_history.specs.Demand3.{LeavesReplacements, HasRoomFor, TakesEntry, Drops, ProvedByPong, InOrder}
 use Rattle.call_history.proofs.Step.{byDatagram, byAnswer, swept-bucket}
@@ -124,6 +124,7 @@ module _ (e : Env) (s : Table) (ok : TableSound e s) where
       (λ _. inl w)
   stays-in-line X w (closest target room) =
       inl (byAnswer e (λ s′. Waits X (bucketOf e s′ X)) s (closest target room) (λ _. w) (λ _. w))
+  stays-in-line X w (unclocked c) = inl w
 
   -- ---- a sweep
 

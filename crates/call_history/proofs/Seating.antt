@@ -18,7 +18,7 @@ use Rattle.bucket_model.proofs.Ranges.{takes-seat, seat-takes}
 use Rattle.bucket_model.proofs.Keys.{promoted-proved, promoted-or-remaining}
 use Rattle.bucket_model.proofs.View.{own-heard, own-pong-stays, own-pong-takes, own-joined, ofKey-kept}
 use Rattle.bucket_model.proofs.Promotion.{provedEntry, ofKey-promoted}
-use Rattle.call_history.specs.Model.{Env, Reading, Call, datagram, pingSent, sweep, closest, Table, slot, bucketOf, answer, Accepted, onDatagram, next, Run}
+use Rattle.call_history.specs.Model.{Env, Reading, Call, datagram, pingSent, sweep, closest, unclocked, Table, slot, bucketOf, answer, Accepted, onDatagram, next, Run}
 use Rattle.call_history.specs.Words.{isPong, entryOf, replacementOf, HasEntry, IsReplacement, AcceptedSweep, pongFrom, ProvedReplacement, keptEntries, keptReplacements}
 use Rattle.call_history.specs.Demand3.{TakesEntry, ComesToEntry}
 use Rattle.call_history.proofs.Step.{byDatagram, byAnswer}
@@ -107,6 +107,7 @@ module _ (e : Env) (s : Table) (ok : TableSound e s) where
         byAnswer e (λ s′. HasEntry e X s′ → PongSeats X (closest target room) ⊎ ((t : ℕ) × AcceptedSweep e s (closest target room) t)) s (closest target room)
         (λ _ has. absurd (omega arith))
         (λ _ has. absurd (omega arith))
+    comes (unclocked c) = λ has. absurd (omega arith)
 
     pong-comes : (c : Call) → PongSeats X c → HasEntry e X (next e s c)
     pong-comes (datagram now unix address udp key bytes) p =
@@ -124,6 +125,7 @@ module _ (e : Env) (s : Table) (ok : TableSound e s) where
     pong-comes (pingSent now key address udp tcp hash) p = never (sym (p .1))
     pong-comes (sweep now) p = never (sym (p .1))
     pong-comes (closest target room) p = never (sym (p .1))
+    pong-comes (unclocked c) p = never (sym (p .1))
 
 module _ (e : Env) (r : Run e) (ok : TableSound e (r .table)) (known : (X : Bytes) → KnownIn e X (r .log) (bucketOf e (r .table) X)) where
   -- what a sweep seats was in line, proved

@@ -17,7 +17,7 @@ use Rattle.bucket_model.proofs.ByteForm.{IsContents}
 use Rattle.bucket_model.proofs.Values.{sound-contents, values-pingSent, values-pong, values-heard, values-sweep}
 use Rattle.bucket_model.proofs.Sound.{EntrySound, BucketSound}
 use Rattle.bucket_model.proofs.Kept.{sound-later, sound-fresh, sound-pingSent, sound-pong, sound-heard, sound-sweep}
-use Rattle.call_history.specs.Model.{Env, Lawful, Call, datagram, pingSent, sweep, closest, Table, slot, homeAt, fresh, bucketAt, bucketOf, Accepted, onDatagram, effect, next, tableAfterAll}
+use Rattle.call_history.specs.Model.{Env, Lawful, Call, datagram, pingSent, sweep, closest, unclocked, Table, slot, homeAt, fresh, bucketAt, bucketOf, Accepted, onDatagram, effect, next, tableAfterAll}
 use Rattle.call_history.specs.Words.{OwnBucket}
 use Rattle.call_history.specs.Chain.{IsCall}
 use Rattle.call_history.proofs.Step.{byDatagram, byAnswer, home-own, slot-home, datagram-keyed, ping-allowed, sweep-in-time, byBucket, swept-bucket, fresh-bucket}
@@ -121,6 +121,7 @@ module _ (e : Env) where
           each = λ i. rw (swept-bucket e s now i) (sound-sweep (homeAt e i) now (bucketAt e s i) (later now (sweep-in-time e s now h) i));
         }
     effect-sound (closest target room) h = ok
+    effect-sound (unclocked c) h = ok
 
     pub next-sound : (c : Call) → TableSound (next e s c)
     next-sound c = byAnswer e TableSound s c (effect-sound c) (λ _. ok)
@@ -159,6 +160,7 @@ module _ (e : Env) where
             each = λ i. rw (swept-bucket e s now i) (values-sweep now is (bucketAt e s i) (values .each i));
           }
       effect-values (closest target room) is h = values
+      effect-values (unclocked c) is h = values
 
       pub next-values : (c : Call) → IsCall c → IsTable (next e s c)
       next-values c is = byAnswer e IsTable s c (effect-values c is) (λ _. values)

@@ -17,7 +17,7 @@ use Rattle.bucket_model.specs.Contents.{Contents}
 use Rattle.bucket_model.specs.Rules.{takesEntry, isOf, ofKey, held, isProved, pinged, ponged, heard, staysReplacement, onPingSent, onPong, onHeard}
 use Rattle.bucket_model.proofs.Keys.{promoted-or-remaining}
 use Rattle.bucket_model.proofs.View.{Mapped, keptEntries, keptReplacements, own-heard, own-pong-stays, own-pong-takes, own-pinged, own-joined, own-sweep, ofKey-kept}
-use Rattle.call_history.specs.Model.{Env, Reading, Call, datagram, pingSent, sweep, closest, Table, slot, bucketAt, bucketOf, answer, onDatagram, next, Run, advance}
+use Rattle.call_history.specs.Model.{Env, Reading, Call, datagram, pingSent, sweep, closest, unclocked, Table, slot, bucketAt, bucketOf, answer, onDatagram, next, Run, advance}
 use Rattle.call_history.specs.Words.{OwnBucket, replacementOf, IsReplacement, begins, proved}
 use Rattle.call_history.specs.Demand3.{StayBegins, StayLasts, ProvedByPong}
 use Rattle.call_history.proofs.Step.{byDatagram, byAnswer, swept-bucket}
@@ -84,6 +84,7 @@ module _ (e : Env) (s : Table) (ok : TableSound e s) (X : Bytes) where
       (λ _. none)
   stays-out none (closest target room) h =
       byAnswer e (λ s′. length (replacementOf e X s′) ≡ 0) s (closest target room) (λ _. none) (λ _. none)
+  stays-out none (unclocked c) h = none
 
   joins : (c : Call) → begins e X s c ≡ true → IsReplacement e X (next e s c)
   joins (datagram now unix address udp key bytes) h = never (sym h)
@@ -100,6 +101,7 @@ module _ (e : Env) (s : Table) (ok : TableSound e s) (X : Bytes) where
       (λ rejected. absurd (rejected a)))
   joins (sweep now) h = never (sym h)
   joins (closest target room) h = never (sym h)
+  joins (unclocked c) h = never (sym h)
 
 pub stay-begins : (e : Env) (r : Run e) → TableSound e (r .table) → (c : Call) → StayBegins e r c
 stay-begins e r ok c X out = (

@@ -18,7 +18,7 @@ use Rattle.bucket_model.specs.Rules.{takesEntry, isPromoted, isOf, ofKey, witho
 use Rattle.bucket_model.proofs.Keys.{All-promoted}
 use Rattle.bucket_model.proofs.View.{keptReplacements, own-heard, own-pong-stays, own-pong-takes}
 use Rattle.bucket_model.proofs.Promotion.{Below}
-use Rattle.call_history.specs.Model.{Env, Call, datagram, pingSent, sweep, closest, Table, slot, bucketAt, bucketOf, answer, Accepted, onDatagram, next, Event, Run, advance}
+use Rattle.call_history.specs.Model.{Env, Call, datagram, pingSent, sweep, closest, unclocked, Table, slot, bucketAt, bucketOf, answer, Accepted, onDatagram, next, Event, Run, advance}
 use Rattle.call_history.specs.Words.{OwnBucket, entryOf, pongFrom, begins, began, heardFrom, tails, TailedBefore}
 use Rattle.call_history.specs.Demand3.{InOrder, EntriesInOrder}
 use Rattle.call_history.proofs.Step.{byPacket, byAnswer, datagram-keyed, datagram-read, ping-allowed, byBucket, swept-bucket}
@@ -122,6 +122,7 @@ module _ (e : Env) where
       (λ g. rw g)
   no-start s X h (sweep now) = refl
   no-start s X h (closest target room) = refl
+  no-start s X h (unclocked c) = refl
 
   -- ---- the entries after a call: those that keep their numbers, and after them those that it puts at the tail
 
@@ -281,6 +282,7 @@ module _ (e : Env) where
         byAnswer e (λ s′. Ordered c (bucketAt e s′ i)) (r .table) c
         (λ _ has once. all-still c i (λ X. refl))
         (λ _ has once. all-still c i (λ X. refl))
+    ordered (unclocked c) i = λ has once. all-still (unclocked c) i (λ X. refl)
 
     pub advance-entries : (c : Call) → EntriesInOrder e (advance e r c)
     advance-entries c i =

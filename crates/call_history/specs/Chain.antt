@@ -3,7 +3,7 @@ use Prim.Native.Nat.{ℕ, _<_, _^_}
 use mathlib.Core.Path.{_≡_}
 use mathlib.Core.List.{List, [], _∷_}
 use Rattle.octets.specs.Octets.{Bytes, Slice}
-use Rattle.call_history.specs.Model.{Env, Call, datagram, pingSent, sweep, closest, Table, fresh, answers, run}
+use Rattle.call_history.specs.Model.{Env, Call, datagram, pingSent, sweep, closest, unclocked, Table, fresh, answers, run}
 use Rattle.call_history.specs.Demand3.{Demand3}
 
 -- the arguments of a call are values of their types: times of 64 bits, ports of 16, slices that memory can have
@@ -14,6 +14,7 @@ IsCall (pingSent now key address udp tcp hash) =
     (now < 2 ^ 64) × Slice key × Slice address × (udp < 2 ^ 16) × (tcp < 2 ^ 16) × Slice hash
 IsCall (sweep now) = now < 2 ^ 64
 IsCall (closest target room) = Slice target × (room < 2 ^ 63)
+IsCall (unclocked c) = IsCall c
 
 -- the answer number that a call gives on bytes, and the bytes that it leaves
 module _ (answerOn : Bytes → Call → ℕ) (bytesAfter : Bytes → Call → Bytes) where

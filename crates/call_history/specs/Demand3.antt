@@ -11,20 +11,29 @@ use Rattle.lists.specs.Lists.{empty, All, Rising}
 use Rattle.node.specs.declared.Endpoint.{Endpoint}
 use Rattle.bucket_model.specs.Facts.{SeatFor}
 use Rattle.bucket_model.specs.Rules.{maxOfRange, rangeCount, ofKey, held, isProved}
-use Rattle.call_history.specs.Model.{Env, Call, datagram, pingSent, sweep, closest, Table, bucketOf, bucketAt, next, Run, advance, run}
+use Rattle.call_history.specs.Model.{Env, Call, datagram, pingSent, sweep, closest, unclocked, Table, bucketOf, bucketAt, next, Run, advance, run}
 use Rattle.call_history.specs.Words.{OwnBucket, entryOf, HasEntry, IsReplacement, AcceptedSweep, pongFrom, OpenPing, begins, InStay, began, proved, ProvedReplacement, keptReplacements, takenAhead, TailedBefore}
 
--- the box clock clockReading of a call; a closest call has none, and counts as read when the last one was
+-- the box clock reading of a call; a closest call has none, and counts as read when the last one was
 abbrev pub clockReading : ℕ → Call → ℕ
 clockReading last (datagram now unix address udp key bytes) = now
 clockReading last (pingSent now key address udp tcp hash) = now
 clockReading last (sweep now) = now
 clockReading last (closest target room) = last
+clockReading last (unclocked c) = last
+
+-- it doesn't fall; "a reading refused here counts as one that falls" (document 02, C-20)
+abbrev pub Rises : ℕ → Call → Type 0
+Rises last (datagram now unix address udp key bytes) = last ≤ now
+Rises last (pingSent now key address udp tcp hash) = last ≤ now
+Rises last (sweep now) = last ≤ now
+Rises last (closest target room) = Unit {0}
+Rises last (unclocked c) = ⊥
 
 -- the readings don't fall, from `last` on
 abbrev pub NotFalling : ℕ → List Call → Type 0
 NotFalling last [] = Unit {0}
-NotFalling last (c ∷ cs) = (last ≤ clockReading last c) × NotFalling (clockReading last c) cs
+NotFalling last (c ∷ cs) = Rises last c × NotFalling (clockReading last c) cs
 
 -- the second list is the first without some datagrams that another key than X signed, or none, every other call the same
 pub data LeftOut (X : Bytes) : List Call → List Call → Type 0 where
@@ -39,6 +48,7 @@ countSweep (datagram now unix address udp key bytes) n = n
 countSweep (pingSent now key address udp tcp hash) n = n
 countSweep (sweep now) n = suc n
 countSweep (closest target room) n = n
+countSweep (unclocked c) n = n
 
 module _ (e : Env) where
   -- the call that next takes X's entry, and how many sweeps, counted from n, came before it: no sweep is ever left out, so the

@@ -61,6 +61,8 @@ pub data Call : Type 0 where
   pingSent : ℕ → Bytes → Bytes → ℕ → ℕ → Bytes → Call
   sweep : ℕ → Call
   closest : Bytes → ℕ → Call
+  -- the call with a clock reading that was refused before it gave a clock (document 02, C-20): it "counts as one that falls"
+  unclocked : Call → Call
 
 -- the clock of the last accepted call, and the buckets in rising number
 pub record Table : Type 0 where
@@ -166,6 +168,7 @@ module _ (e : Env) where
   answer s (pingSent now key address udp tcp hash) = first (pingSentRefusals (s .clock) (bucketOf s key) now key address udp hash)
   answer s (sweep now) = first ((ltb now (s .clock), 2) ∷ [])
   answer s (closest target room) = first ((not (eqb (length target) 64), 5) ∷ (ltb room 16, 19) ∷ [])
+  answer s (unclocked c) = 2
 
   -- "Accepted means answered 0"
   abbrev pub Accepted : Table → Call → Type 0
@@ -180,6 +183,7 @@ module _ (e : Env) where
       record { clock = now; buckets = modify (slot key) (onPingSent now key address udp tcp hash) (s .buckets) }
   effect s (sweep now) = record { clock = now; buckets = map (onSweep now) (s .buckets) }
   effect s (closest target room) = s
+  effect s (unclocked c) = s
 
   -- "A refusal .. changes nothing"
   abbrev pub next : Table → Call → Table

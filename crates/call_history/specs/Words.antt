@@ -11,7 +11,7 @@ use Rattle.octets.specs.Octets.{Bytes, sameBytes}
 use Rattle.lists.specs.Lists.{select, empty}
 use Rattle.entry.specs.declared.Entry.{Entry}
 use Rattle.bucket_model.specs.Rules.{ofKey, held, mayTake, notVerified, staysEntry, staysReplacement}
-use Rattle.call_history.specs.Model.{Env, Reading, refused, ping, pong, other, Call, datagram, pingSent, sweep, closest, Table, isKept, slot, homeAt, bucketOf, answer, Accepted, next, Event, Run}
+use Rattle.call_history.specs.Model.{Env, Reading, refused, ping, pong, other, Call, datagram, pingSent, sweep, closest, unclocked, Table, isKept, slot, homeAt, bucketOf, answer, Accepted, next, Event, Run}
 
 abbrev pub isPong : Reading → Bool
 isPong (refused fault) = false
@@ -57,6 +57,7 @@ module _ (e : Env) where
   PingAt X t s (pingSent now key address udp tcp hash) = (key ≡ X) × (now ≡ t) × Accepted e s (pingSent now key address udp tcp hash)
   PingAt X t s (sweep now) = ⊥
   PingAt X t s (closest target room) = ⊥
+  PingAt X t s (unclocked c) = ⊥
 
   -- "a pong from it, a type 2 datagram with that signer": an accepted one
   abbrev pub pongFrom : Bytes → Table → Call → Bool
@@ -65,6 +66,7 @@ module _ (e : Env) where
   pongFrom X s (pingSent now key address udp tcp hash) = false
   pongFrom X s (sweep now) = false
   pongFrom X s (closest target room) = false
+  pongFrom X s (unclocked c) = false
 
   -- a ping was recorded for X at t, with no accepted pong from X since
   abbrev pub OpenPing : Bytes → ℕ → List (Event e) → Type 0
@@ -81,6 +83,7 @@ module _ (e : Env) where
       sameBytes X key && (eqb (answer e s (pingSent now key address udp tcp hash)) 0 && empty (held key (bucketOf e s key)))
   begins X s (sweep now) = false
   begins X s (closest target room) = false
+  begins X s (unclocked c) = false
 
   -- X has been in line since the ping that began its stay
   abbrev pub InStay : Bytes → List (Event e) → Type 0
@@ -134,6 +137,7 @@ module _ (e : Env) where
   heardFrom X s (pingSent now key address udp tcp hash) = false
   heardFrom X s (sweep now) = false
   heardFrom X s (closest target room) = false
+  heardFrom X s (unclocked c) = false
 
   -- the call puts X at the tail: it gives X an entry, or X has one and "goes to the tail" by its accepted pong or by another packet
   abbrev pub tails : Bytes → Table → Call → Bool

@@ -14,7 +14,7 @@ use Rattle.table_model.specs.Sound.{tableSound}
 use Rattle.table_model.proofs.Table.{length-table}
 use Rattle.table_model.specs.Facts.{SoundTable}
 use Rattle.table_model.proofs.Sound.{sized-table, form-is-sound, sound-is-table, table-of-sound}
-use Rattle.call_history.specs.Model.{Env, Reading, Call, datagram, pingSent, sweep, closest, Table, next}
+use Rattle.call_history.specs.Model.{Env, Reading, Call, datagram, pingSent, sweep, closest, unclocked, Table, next}
 use Rattle.call_history.specs.Keccak.{withKeccak}
 use Rattle.call_history.specs.Chain.{IsCall}
 use Rattle.call_history.proofs.Sound.{TableSound, IsTable, next-sound, next-values}
@@ -95,6 +95,7 @@ module _ (read : Bytes → ℕ → Reading) where
       let one : answerOn read s (sweep now) ≡ 1 = one-exactly read s (sweep now) .1 (λ ok. never (sym ok ∙ h)) in
       ap length (refused-unchanged s (sweep now) (λ z. absurd (omega arith))))
   length-kept s (closest target room) bs is = ap length (closest-unchanged s target room)
+  length-kept s (unclocked c) bs is = byBytes (λ m. length m ≡ length s) s (unclocked c) refl refl
 
   pub on-any-bytes : OnAnyBytes read
   on-any-bytes =

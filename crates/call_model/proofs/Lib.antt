@@ -3,3 +3,4 @@ pub mod Step
 pub mod Demand3
 pub mod Numbers
 pub mod AnyBytes
+pub mod Wrong

@@ -13,8 +13,8 @@ use Rattle.lists.proofs.Laws.{byTest, never, and-left, and-right}
 use Rattle.bucket_model.specs.Contents.{Contents}
 use Rattle.table_model.specs.Layout.{clockOf, headerSound}
 use Rattle.table_model.specs.Sound.{bucketSound, tableSound}
-use Rattle.call_history.specs.Model.{Env, Reading, refused, ping, pong, other, Call, datagram, pingSent, sweep, closest, isOwn, isKept, slot, datagramRefusals, pingSentRefusals}
-use Rattle.call_model.specs.Calls.{envOf, touches, bucketFor, unsoundFor, answerOn}
+use Rattle.call_history.specs.Model.{Env, Reading, refused, ping, pong, other, Call, datagram, pingSent, sweep, closest, unclocked, isOwn, isKept, slot, datagramRefusals, pingSentRefusals}
+use Rattle.call_model.specs.Calls.{envOf, touches, bucketFor, unsoundFor, unsoundOn, answerOn}
 use Rattle.call_model.specs.AnyBytes.{numbersOf, IsTouched, SoundForKey, SoundFor}
 use Rattle.call_model.proofs.Form.{both-sound}
 
@@ -29,33 +29,43 @@ first-listed (t ∷ l) ns z h =
     byTest (t .0) (λ g. rw g here) (λ g. rw g later)
 
 -- listed without 1, and so listed with it, and not 1
-with-one : (n : ℕ) (ns : List ℕ) → any (eqb n) (0 ∷ ns) ≡ true → any (eqb n) (0 ∷ 1 ∷ ns) ≡ true
-with-one n ns = byTest (eqb n 0) (λ g. rw g (λ h. refl)) (λ g. byTest (eqb n 1) (λ k. rw (g, k) (λ h. refl)) (λ k. rw (g, k) (λ h. h)))
+with-one : (n : ℕ) (ns : List ℕ) → any (eqb n) ns ≡ true → any (eqb n) (1 ∷ ns) ≡ true
+with-one n ns = byTest (eqb n 1) (λ g. rw g (λ h. refl)) (λ g. rw g (λ h. h))
+
+with-zero-one : (n : ℕ) (ns : List ℕ) → any (eqb n) (0 ∷ ns) ≡ true → any (eqb n) (0 ∷ 1 ∷ ns) ≡ true
+with-zero-one n ns = byTest (eqb n 0) (λ g. rw g (λ h. refl)) (λ g. rw g (with-one n ns))
 
 module _ (read : Bytes → ℕ → Reading) where
-  -- whether 1 applies, and the tests of the other numbers
-  abbrev unsound : Bytes → Call → Bool
-  unsound s (datagram now unix address udp key bytes) = unsoundFor read s key
-  unsound s (pingSent now key address udp tcp hash) = unsoundFor read s key
-  unsound s (sweep now) = not (tableSound s)
-  unsound s (closest target room) = not (tableSound s)
-
+  -- the tests of the other numbers than 1
   abbrev others : Bytes → Call → List (Bool × ℕ)
   others s (datagram now unix address udp key bytes) =
       datagramRefusals (envOf read s) (clockOf s) (bucketFor read s key) now address udp key (read bytes unix)
   others s (pingSent now key address udp tcp hash) = pingSentRefusals (envOf read s) (clockOf s) (bucketFor read s key) now key address udp hash
   others s (sweep now) = (ltb now (clockOf s), 2) ∷ []
   others s (closest target room) = (not (eqb (length target) 64), 5) ∷ (ltb room 16, 19) ∷ []
+  others s (unclocked c) = (true, 2) ∷ []
 
-  answer-is : (s : Bytes) (c : Call) → answerOn read s c ≡ cond (unsound s c) 1 (first (others s c))
+  answer-is : (s : Bytes) (c : Call) → answerOn read s c ≡ cond (unsoundOn read s c) 1 (first (others s c))
   unfolding answerOn
   answer-is s (datagram now unix address udp key bytes) = refl
   answer-is s (pingSent now key address udp tcp hash) = refl
   answer-is s (sweep now) = refl
   answer-is s (closest target room) = refl
+  answer-is s (unclocked c) = refl
 
   abbrev othersOf : Call → List ℕ
-  othersOf c = 0 ∷ drop 2 (numbersOf c)
+  othersOf (datagram now unix address udp key bytes) = 0 ∷ drop 2 (numbersOf (datagram now unix address udp key bytes))
+  othersOf (pingSent now key address udp tcp hash) = 0 ∷ drop 2 (numbersOf (pingSent now key address udp tcp hash))
+  othersOf (sweep now) = 0 ∷ drop 2 (numbersOf (sweep now))
+  othersOf (closest target room) = 0 ∷ drop 2 (numbersOf (closest target room))
+  othersOf (unclocked c) = drop 1 (numbersOf (unclocked c))
+
+  with-others : (c : Call) (n : ℕ) → any (eqb n) (othersOf c) ≡ true → any (eqb n) (numbersOf c) ≡ true
+  with-others (datagram now unix address udp key bytes) n = with-zero-one n (drop 2 (numbersOf (datagram now unix address udp key bytes)))
+  with-others (pingSent now key address udp tcp hash) n = with-zero-one n (drop 2 (numbersOf (pingSent now key address udp tcp hash)))
+  with-others (sweep now) n = with-zero-one n (drop 2 (numbersOf (sweep now)))
+  with-others (closest target room) n = with-zero-one n (drop 2 (numbersOf (closest target room)))
+  with-others (unclocked c) n = with-one n (drop 1 (numbersOf (unclocked c)))
 
   datagram-listed : (e : Env) (clock : ℕ) (b : Contents) (now unix : ℕ) (address : Bytes) (udp : ℕ) (key bytes : Bytes) (r : Reading)
       → all (λ t. any (eqb (t .1)) (othersOf (datagram now unix address udp key bytes))) (datagramRefusals e clock b now address udp key r) ≡ true
@@ -74,20 +84,21 @@ module _ (read : Bytes → ℕ → Reading) where
       first-listed (others s (pingSent now key address udp tcp hash)) (othersOf (pingSent now key address udp tcp hash)) refl refl
   others-listed s (sweep now) = first-listed (others s (sweep now)) (othersOf (sweep now)) refl refl
   others-listed s (closest target room) = first-listed (others s (closest target room)) (othersOf (closest target room)) refl refl
+  others-listed s (unclocked c) = refl
 
-  -- a list of numbers with 0 and 1 first
-  numbers-begin : (c : Call) → numbersOf c ≡ 0 ∷ 1 ∷ drop 2 (numbersOf c)
-  numbers-begin (datagram now unix address udp key bytes) = refl
-  numbers-begin (pingSent now key address udp tcp hash) = refl
-  numbers-begin (sweep now) = refl
-  numbers-begin (closest target room) = refl
+  one-listed : (c : Call) → any (eqb 1) (numbersOf c) ≡ true
+  one-listed (datagram now unix address udp key bytes) = refl
+  one-listed (pingSent now key address udp tcp hash) = refl
+  one-listed (sweep now) = refl
+  one-listed (closest target room) = refl
+  one-listed (unclocked c) = refl
 
   pub number-listed : (s : Bytes) (c : Call) → any (eqb (answerOn read s c)) (numbersOf c) ≡ true
   number-listed s c =
-      rw (answer-is s c, numbers-begin c)
-      (byTest (unsound s c)
-      (λ h. rw h refl)
-      (λ h. rw h (with-one (first (others s c)) (drop 2 (numbersOf c)) (others-listed s c))))
+      rw (answer-is s c)
+      (byTest (unsoundOn read s c)
+      (λ h. rw h (one-listed c))
+      (λ h. rw h (with-others c (first (others s c)) (others-listed s c))))
 
   -- ---- 1
 
@@ -96,6 +107,7 @@ module _ (read : Bytes → ℕ → Reading) where
   one-free (pingSent now key address udp tcp hash) = refl
   one-free (sweep now) = refl
   one-free (closest target room) = refl
+  one-free (unclocked c) = refl
 
   others-not-one : (s : Bytes) (c : Call) → first (others s c) ≡ 1 → ⊥
   others-not-one s c h = never (sym (others-listed s c) ∙ ap (λ n. any (eqb n) (othersOf c)) h ∙ one-free c)
@@ -119,14 +131,15 @@ module _ (read : Bytes → ℕ → Reading) where
         (λ h. (tests .1 h .0, λ t. tests .1 h .1 (touched s key .1 t))),
       )
 
-  unsound-exactly : (s : Bytes) (c : Call) → SoundFor read s c ↔ (unsound s c ≡ false)
+  unsound-exactly : (s : Bytes) (c : Call) → SoundFor read s c ↔ (unsoundOn read s c ≡ false)
   unsound-exactly s (datagram now unix address udp key bytes) = key-sound s key
   unsound-exactly s (pingSent now key address udp tcp hash) = key-sound s key
   unsound-exactly s (sweep now) = ((λ h. ap not h), (λ h. not-false (tableSound s) h))
   unsound-exactly s (closest target room) = ((λ h. ap not h), (λ h. not-false (tableSound s) h))
+  unsound-exactly s (unclocked c) = unsound-exactly s c
 
   pub one-exactly : (s : Bytes) (c : Call) → (answerOn read s c ≡ 1) ↔ (SoundFor read s c → ⊥)
   one-exactly s c = (
     (λ one. λ sound. others-not-one s c (rw (answer-is s c, unsound-exactly s c .0 sound) at one)),
-    (λ no-sound. byTest (unsound s c) (λ h. rw (answer-is s c, h) refl) (λ h. absurd (no-sound (unsound-exactly s c .1 h)))),
+    (λ no-sound. byTest (unsoundOn read s c) (λ h. rw (answer-is s c, h) refl) (λ h. absurd (no-sound (unsound-exactly s c .1 h)))),
   )

@@ -1,6 +1,7 @@
 -- On the byte form of a sound table each call is the model's step: its answer number, and the bytes that it leaves.
 use Prim.Native.Nat.{ℕ, _≤_, _<_}
 use mathlib.Core.Path.{_≡_, refl, ap, ap₂, sym, _∙_}
+use mathlib.Core.Bool.{false}
 use mathlib.Core.List.{map}
 use native.Mathlib.Omega.{arith}
 use lib.Dec.{eqb}
@@ -15,11 +16,11 @@ use Rattle.table_model.specs.Layout.{encodeTable, offsetOf, ownOf}
 use Rattle.table_model.specs.Facts.{SoundTable}
 use Rattle.table_model.proofs.Table.{count-read, store-clock-table, store-bucket-table}
 use Rattle.table_model.proofs.Sound.{sized-table, own-back, clock-back, buckets-back, form-is-sound, sound-is-table, table-of-sound}
-use Rattle.call_history.specs.Model.{Env, Reading, Call, datagram, pingSent, sweep, closest, Table, slot, bucketOf, datagramRefusals, pingSentRefusals, onDatagram, answer, effect, next}
+use Rattle.call_history.specs.Model.{Env, Reading, Call, datagram, pingSent, sweep, closest, unclocked, Table, slot, bucketOf, datagramRefusals, pingSentRefusals, onDatagram, answer, effect, next}
 use Rattle.call_history.specs.Keccak.{withKeccak}
 use Rattle.call_history.proofs.Chain.{StepFollows}
 use Rattle.call_history.proofs.Sound.{next-sound, next-values}
-use Rattle.call_model.specs.Calls.{answerOn, atClock, withBucketFor, effectOn, bytesAfter}
+use Rattle.call_model.specs.Calls.{unsoundOn, answerOn, atClock, withBucketFor, effectOn, bytesAfter}
 use Rattle.call_model.specs.OverBytes.{encode}
 use Rattle.call_model.specs.Claims.{tableIn, StepOnForm, StepOnBytes}
 use Rattle.call_model.proofs.Form.{slot-below, table-form, form-sound, form-values, reads, not-unsound}
@@ -31,6 +32,14 @@ module _ (read : Bytes → ℕ → Reading) (own : Bytes) (t : Table) (f : Sound
   abbrev s : Bytes
   s = encode own t
 
+  -- 1 applies to no call
+  sound-on : (c : Call) → unsoundOn read s c ≡ false
+  sound-on (datagram now unix address udp key bytes) = not-unsound read own t f key
+  sound-on (pingSent now key address udp tcp hash) = not-unsound read own t f key
+  sound-on (sweep now) = rw (form-is-sound own (t .clock) (t .buckets) f) refl
+  sound-on (closest target room) = rw (form-is-sound own (t .clock) (t .buckets) f) refl
+  sound-on (unclocked c) = sound-on c
+
   answer-follows : (c : Call) → answerOn read s c ≡ answer e t c
   unfolding answerOn
   answer-follows (datagram now unix address udp key bytes) =
@@ -41,6 +50,7 @@ module _ (read : Bytes → ℕ → Reading) (own : Bytes) (t : Table) (f : Sound
       (reads read own t f key (λ x clock b. first (pingSentRefusals x clock b now key address udp hash)))
   answer-follows (sweep now) = rw (form-is-sound own (t .clock) (t .buckets) f, clock-back own (t .clock) (t .buckets) f) refl
   answer-follows (closest target room) = rw (form-is-sound own (t .clock) (t .buckets) f) refl
+  answer-follows (unclocked c) = rw (sound-on c) refl
 
   -- the key's bucket and the clock are stored, where what is stored has a byte form
   stored : (key : Bytes) (g : Contents → Contents) (now : ℕ) → SoundTable own now (modify (slot e key) g (t .buckets))
@@ -66,6 +76,7 @@ module _ (read : Bytes → ℕ → Reading) (own : Bytes) (t : Table) (f : Sound
   effect-follows (sweep now) after =
       ap₂ (λ o l. encodeTable o now (map (onSweep now) l)) (own-back own (t .clock) (t .buckets) f) (buckets-back own (t .clock) (t .buckets) f)
   effect-follows (closest target room) after = refl
+  effect-follows (unclocked c) after = refl
 
   bytes-follow : (c : Call) → SoundTable own (next e t c .clock) (next e t c .buckets)
       → bytesAfter read s c ≡ encode own (next e t c)

@@ -8,10 +8,12 @@ use lib.Dec.{eqb}
 use lib.ListN.{length}
 use Rattle.octets.specs.Octets.{Bytes, IsBytes}
 use Rattle.lists.specs.Lists.{any}
+use Rattle.node.specs.Nodes.{isAddress}
 use Rattle.table_model.specs.Layout.{headerSound}
 use Rattle.table_model.specs.Sound.{bucketSound, tableSound}
-use Rattle.call_history.specs.Model.{Reading, Call, datagram, pingSent, sweep, closest, isOwn, isKept, slot}
+use Rattle.call_history.specs.Model.{Reading, Call, datagram, pingSent, sweep, closest, unclocked, isOwn, isKept, slot}
 use Rattle.call_history.specs.Chain.{IsCall}
+use Rattle.call_model.specs.Reading.{reading}
 use Rattle.call_model.specs.Calls.{envOf, answerOn, bytesAfter}
 
 -- the answer numbers that a call can give
@@ -21,6 +23,7 @@ numbersOf (datagram now unix address udp key bytes) =
 numbersOf (pingSent now key address udp tcp hash) = 0 ∷ 1 ∷ 2 ∷ 4 ∷ 5 ∷ 6 ∷ 7 ∷ 12 ∷ 16 ∷ 17 ∷ 18 ∷ []
 numbersOf (sweep now) = 0 ∷ 1 ∷ 2 ∷ []
 numbersOf (closest target room) = 0 ∷ 1 ∷ 5 ∷ 19 ∷ []
+numbersOf (unclocked c) = 1 ∷ 2 ∷ []
 
 module _ (read : Bytes → ℕ → Reading) where
   -- "A bucket counts as touched where the key is 64 bytes, 7 doesn't apply and its bucket is kept"
@@ -37,6 +40,7 @@ module _ (read : Bytes → ℕ → Reading) where
   SoundFor s (pingSent now key address udp tcp hash) = SoundForKey s key
   SoundFor s (sweep now) = tableSound s ≡ true
   SoundFor s (closest target room) = tableSound s ≡ true
+  SoundFor s (unclocked c) = SoundFor s c
 
   pub record OnAnyBytes : Type 0 where
     pub number-listed : (s : Bytes) (c : Call) → any (eqb (answerOn read s c)) (numbersOf c) ≡ true
@@ -49,3 +53,10 @@ module _ (read : Bytes → ℕ → Reading) where
     pub length-kept : (s : Bytes) (c : Call) → IsBytes s → IsCall c → length (bytesAfter read s c) ≡ length s
     -- "every accepted call leaves a sound table sound"
     pub sound-kept : (s : Bytes) (c : Call) → IsBytes s → IsCall c → tableSound s ≡ true → tableSound (bytesAfter read s c) ≡ true
+
+-- two wrong addresses are answered alike, and leave the same bytes
+abbrev pub WrongAddresses : Type 0
+WrongAddresses =
+    (s : Bytes) (now unix : ℕ) (a a′ : Bytes) (udp : ℕ) (key g : Bytes) → isAddress a ≡ false → isAddress a′ ≡ false
+    → (answerOn reading s (datagram now unix a udp key g) ≡ answerOn reading s (datagram now unix a′ udp key g))
+    × (bytesAfter reading s (datagram now unix a udp key g) ≡ bytesAfter reading s (datagram now unix a′ udp key g))

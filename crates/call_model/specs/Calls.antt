@@ -1,6 +1,6 @@
 -- The calls on a table's bytes, whatever they hold: each call's answer number, and the bytes that it leaves.
 use Prim.Native.Nat.{ℕ}
-use mathlib.Core.Bool.{Bool, cond, not, _&&_, _||_}
+use mathlib.Core.Bool.{Bool, true, cond, not, _&&_, _||_}
 use mathlib.Core.List.{List, [], _∷_, map}
 use lib.Dec.{eqb, ltb}
 use lib.ListN.{length}
@@ -10,7 +10,7 @@ use Rattle.bucket_model.specs.Contents.{Contents, encodeBucket}
 use Rattle.bucket_model.specs.Rules.{onPingSent, onSweep}
 use Rattle.table_model.specs.Layout.{encodeTable, ownOf, clockOf, countOf, offsetOf, bucketAt, bucketsOf, headerSound}
 use Rattle.table_model.specs.Sound.{bucketSound, tableSound}
-use Rattle.call_history.specs.Model.{Env, Reading, Call, datagram, pingSent, sweep, closest, isOwn, isKept, slot, datagramRefusals, pingSentRefusals, onDatagram}
+use Rattle.call_history.specs.Model.{Env, Reading, Call, datagram, pingSent, sweep, closest, unclocked, isOwn, isKept, slot, datagramRefusals, pingSentRefusals, onDatagram}
 use Rattle.call_history.specs.Keccak.{withKeccak}
 
 -- the bytes with the clock written anew
@@ -35,6 +35,14 @@ module _ (read : Bytes → ℕ → Reading) where
   abbrev pub unsoundFor : Bytes → Bytes → Bool
   unsoundFor s key = not (headerSound s) || (touches s key && not (bucketSound s (slot (envOf s) key)))
 
+  -- 1, of what a call touches: "a sweep and a closest call touch all"
+  abbrev pub unsoundOn : Bytes → Call → Bool
+  unsoundOn s (datagram now unix address udp key bytes) = unsoundFor s key
+  unsoundOn s (pingSent now key address udp tcp hash) = unsoundFor s key
+  unsoundOn s (sweep now) = not (tableSound s)
+  unsoundOn s (closest target room) = not (tableSound s)
+  unsoundOn s (unclocked c) = unsoundOn s c
+
   -- document 01's table of answer numbers for each call, "lowest that applies is given"; "a sweep and a closest call touch all"
   abbrev pub refusalsOn : Bytes → Call → List (Bool × ℕ)
   refusalsOn s (datagram now unix address udp key bytes) =
@@ -43,6 +51,7 @@ module _ (read : Bytes → ℕ → Reading) where
       (unsoundFor s key, 1) ∷ pingSentRefusals (envOf s) (clockOf s) (bucketFor s key) now key address udp hash
   refusalsOn s (sweep now) = (not (tableSound s), 1) ∷ (ltb now (clockOf s), 2) ∷ []
   refusalsOn s (closest target room) = (not (tableSound s), 1) ∷ (not (eqb (length target) 64), 5) ∷ (ltb room 16, 19) ∷ []
+  refusalsOn s (unclocked c) = (unsoundOn s c, 1) ∷ (true, 2) ∷ []
 
   unfoldable pub answerOn : Bytes → Call → ℕ
   answerOn s c = first (refusalsOn s c)
@@ -59,6 +68,7 @@ module _ (read : Bytes → ℕ → Reading) where
       atClock now (withBucketFor key (onPingSent now key address udp tcp hash) s)
   effectOn s (sweep now) = encodeTable (ownOf s) now (map (onSweep now) (bucketsOf s))
   effectOn s (closest target room) = s
+  effectOn s (unclocked c) = s
 
   -- "A refusal .. changes nothing lent but the tally"
   unfoldable pub bytesAfter : Bytes → Call → Bytes

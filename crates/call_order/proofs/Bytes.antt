@@ -1,11 +1,14 @@
 -- The same on the byte form of a sound table: whole answers, and the bytes.
 use Prim.Native.Nat.{ℕ, _≤_}
-use mathlib.Core.Path.{_≡_, refl, ap, sym, _∙_}
+use mathlib.Core.Path.{_≡_, refl, ap, sym, subst, _∙_}
 use Rattle.octets.specs.Octets.{Bytes}
-use Rattle.call_history.specs.Model.{Env, Call, datagram, pingSent, sweep, closest, Table, bucketOf, answer, next}
+use Rattle.table_model.specs.Layout.{clockOf}
+use Rattle.table_model.proofs.Sound.{clock-back}
+use Rattle.call_history.specs.Model.{Env, Call, datagram, pingSent, sweep, closest, unclocked, Table, bucketOf, answer, next}
 use Rattle.call_history.specs.Keccak.{withKeccak}
 use Rattle.call_history.specs.Chain.{IsCall}
 use Rattle.call_history.proofs.Sound.{TableSound, IsTable, next-sound, next-values}
+use Rattle.call_history.proofs.Step.{byAnswer}
 use Rattle.call_model.specs.Calls.{bucketFor, answerOn, bytesAfter}
 use Rattle.call_model.specs.Reading.{reading}
 use Rattle.call_model.specs.OverBytes.{encode}
@@ -14,7 +17,7 @@ use Rattle.call_model.proofs.Step.{step-follows}
 use Rattle.call_datagram.specs.Received.{received}
 use Rattle.call_order.specs.Order.{Apart, InStretch}
 use Rattle.call_order.proofs.Lists.{other-slot}
-use Rattle.call_order.proofs.Calls.{unseen, two-calls}
+use Rattle.call_order.proofs.Calls.{effect-is, unseen, two-calls}
 
 -- the whole answer to a datagram or a ping-sent is the same on both
 abbrev pub SameAnswer : Bytes → Bytes → Call → Type 0
@@ -23,6 +26,7 @@ SameAnswer s s′ (pingSent now key address udp tcp hash) =
     answerOn reading s′ (pingSent now key address udp tcp hash) ≡ answerOn reading s (pingSent now key address udp tcp hash)
 SameAnswer s s′ (sweep now) = Unit {0}
 SameAnswer s s′ (closest target room) = Unit {0}
+SameAnswer s s′ (unclocked c) = Unit {0}
 
 module _ (own : Bytes) (count : ℕ) (one : 1 ≤ count) (most : count ≤ 256) where
   abbrev e : Env
@@ -43,6 +47,9 @@ module _ (own : Bytes) (count : ℕ) (one : 1 ≤ count) (most : count ≤ 256) 
 
     left-is : (c : Call) → IsCall c → bytesAfter reading (encode own t) c ≡ encode own (next e t c)
     left-is c is = step-follows reading own count one most t c ok values is .1
+
+    clock-is : clockOf (encode own t) ≡ t .clock
+    clock-is = clock-back own (t .clock) (t .buckets) (table-form reading own count one most t ok values)
 
     bucket-is : (key : Bytes) → bucketFor reading (encode own t) key ≡ bucketOf e t key
     bucket-is key =
@@ -89,6 +96,16 @@ module _ (own : Bytes) (count : ℕ) (one : 1 ≤ count) (most : count ≤ 256) 
         ∙ ap (encode own) (two-calls e (f .table) (f .sound) t c d in-c in-d apart .state)
         ∙ sym (left-both (f .table) (f .sound) (f .values) d c is-d is-c))
 
+    -- the clock after a call at t is the one before, or t
+    pub clock-after : (P : ℕ → Type 0) (c : Call) → IsCall c → InStretch e t c → P (clockOf s) → P t → P (clockOf (bytesAfter reading s c))
+    unfolding form-left
+    clock-after P c is in-c before at-t =
+        let x = f .table in
+        let g = form-left s c is f in
+        let before′ : P (x .clock) = subst P (ap clockOf (f .is) ∙ clock-is x (f .sound) (f .values)) before in
+        subst P (sym (ap clockOf (g .is) ∙ clock-is (g .table) (g .sound) (g .values)))
+        (byAnswer e (λ y. P (y .clock)) x c (λ _. subst P (sym (ap (λ y. y .clock) (effect-is e x t c in-c))) at-t) (λ _. before′))
+
     -- the answer to the one is the same after the other
     pub answer-either : (c d : Call) → IsCall c → IsCall d → InStretch e t c → InStretch e t d → Apart e c d → SameAnswer s (bytesAfter reading s d) c
     unfolding received
@@ -105,3 +122,4 @@ module _ (own : Bytes) (count : ℕ) (one : 1 ≤ count) (most : count ≤ 256) 
         rw (f .is) (number-after (f .table) (f .sound) (f .values) c d is-c is-d (two-calls e (f .table) (f .sound) t c d in-c in-d apart .first))
     answer-either (sweep now) d is-c is-d in-c in-d apart = tt
     answer-either (closest target room) d is-c is-d in-c in-d apart = tt
+    answer-either (unclocked c) d is-c is-d in-c in-d apart = tt

@@ -11,7 +11,7 @@ use Rattle.lists.specs.Lists.{modify}
 use Rattle.lists.proofs.Laws.{byTest, never}
 use Rattle.bucket_model.specs.Contents.{Contents}
 use Rattle.bucket_model.specs.Rules.{onPingSent}
-use Rattle.call_history.specs.Model.{Env, Call, datagram, pingSent, sweep, closest, Table, isKept, slot, bucketOf, datagramRefusals, pingSentRefusals, onDatagram, answer, effect, next}
+use Rattle.call_history.specs.Model.{Env, Call, datagram, pingSent, sweep, closest, unclocked, Table, isKept, slot, bucketOf, datagramRefusals, pingSentRefusals, onDatagram, answer, effect, next}
 use Rattle.call_history.proofs.Sound.{TableSound}
 use Rattle.call_history.proofs.Step.{byAnswer, datagram-keyed, ping-allowed, other-bucket}
 use Rattle.call_order.specs.Order.{Apart, InStretch, EitherWay}
@@ -31,14 +31,16 @@ module _ (e : Env) where
   change (pingSent now key address udp tcp hash) = onPingSent now key address udp tcp hash
   change (sweep now) = λ b. b
   change (closest target room) = λ b. b
+  change (unclocked c) = λ b. b
 
-  effect-is : (s : Table) (t : ℕ) (c : Call) → InStretch e t c → effect e s c ≡ record { clock = t; buckets = modify (slotOf e c) (change c) (s .buckets) }
+  pub effect-is : (s : Table) (t : ℕ) (c : Call) → InStretch e t c → effect e s c ≡ record { clock = t; buckets = modify (slotOf e c) (change c) (s .buckets) }
   effect-is s t (datagram now unix address udp key bytes) in-c =
       ap (λ n. record { clock = n; buckets = modify (slot e key) (onDatagram now address udp key (e .read bytes unix)) (s .buckets) }) (in-c .0)
   effect-is s t (pingSent now key address udp tcp hash) in-c =
       ap (λ n. record { clock = n; buckets = modify (slot e key) (onPingSent now key address udp tcp hash) (s .buckets) }) (in-c .0)
   effect-is s t (sweep now) in-c = never (sym (in-c .1))
   effect-is s t (closest target room) in-c = never (sym (in-c .1))
+  effect-is s t (unclocked c) in-c = never (sym (in-c .1))
 
   -- what a call at t with this key reads of a table
   pub record Unseen (s s′ : Table) (t : ℕ) (key : Bytes) : Type 0 where
@@ -68,6 +70,7 @@ module _ (e : Env) where
         (λ _. record { early = refl; bucket = refl })
     unseen key (sweep now) in-d apart = never (sym (in-d .1))
     unseen key (closest target room) in-d apart = never (sym (in-d .1))
+    unseen key (unclocked c) in-d apart = never (sym (in-d .1))
 
     -- so its answer number is the same
     same-number : (c d : Call) → InStretch e t c → InStretch e t d → (slotOf e c ≡ slotOf e d → ⊥) → answer e (next e s d) c ≡ answer e s c
@@ -82,6 +85,7 @@ module _ (e : Env) where
         rw (early, u .bucket) refl
     same-number (sweep now) d in-c in-d apart = never (sym (in-c .1))
     same-number (closest target room) d in-c in-d apart = never (sym (in-c .1))
+    same-number (unclocked c) d in-c in-d apart = never (sym (in-c .1))
 
     accepted-next : (s : Table) (c : Call) → eqb (answer e s c) 0 ≡ true → next e s c ≡ effect e s c
     accepted-next s c h = rw h refl

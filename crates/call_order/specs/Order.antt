@@ -7,15 +7,16 @@ use lib.Dec.{eqb}
 use lib.ListN.{length}
 use Rattle.octets.specs.Octets.{Bytes}
 use Rattle.lists.specs.Lists.{select, All}
-use Rattle.call_history.specs.Model.{Env, Call, datagram, pingSent, sweep, closest, isOwn, isKept, slot}
+use Rattle.call_history.specs.Model.{Env, Call, datagram, pingSent, sweep, closest, unclocked, isOwn, isKept, slot}
 use Rattle.call_history.specs.Demand3.{clockReading}
 
--- the key of a datagram's signer or of a ping-sent's target; other calls have none
+-- the key of a datagram's signer or of a ping-sent's target; other calls have none, nor has one whose reading gave no clock (C-20)
 abbrev pub keyOf : Call → Bytes
 keyOf (datagram now unix address udp key bytes) = key
 keyOf (pingSent now key address udp tcp hash) = key
 keyOf (sweep now) = []
 keyOf (closest target room) = []
+keyOf (unclocked c) = []
 
 module _ (e : Env) where
   -- a call with a kept bucket: "A bucket counts as touched where the key is 64 bytes, 7 doesn't apply and its bucket is kept"

@@ -18,7 +18,8 @@ ghost use Rattle.packet_reply.specs.Reply.{replyCount, replyPart};
 ghost use Rattle.table.specs.Init.{initAnswer, initTable};
 ghost use Rattle.counters.specs.Counters.{raised, cleared};
 ghost use Rattle.counters.specs.History.{counted};
-ghost use Rattle.call_burst.specs.Burst.{burstOf, burstNumber, numbersOf, tableAfter};
+ghost use Rattle.call_burst_lists.specs.Lists.{burstOf};
+ghost use Rattle.call_burst.specs.Burst.{burstNumber, numbersOf, tableAfter};
 ghost use Rattle.call_burst.specs.Burst as bursts;
 ghost use Rattle.closest_nodes.specs.Listing.{listed, listAfter};
 ghost use Rattle.capi_codes.specs.Codes.{numberIn, receivedCode, listedCode, writtenCode, seqOf};
@@ -34,6 +35,9 @@ ghost use Rattle.capi_enode.specs.Told.{toldBoot, sizeAfter};
 use counters::Counters;
 use node::Node;
 use packet_span::Span;
+
+// the table's calls by a reading of 32 bits
+pub mod low;
 
 // ---- the table's calls
 

@@ -50,7 +50,8 @@ use Rattle.counters.proofs.Counters as TC
 use Rattle.counters.proofs.Counters.Laws as TC′
 use Rattle.counters.proofs.CountedNumber as TD
 use Rattle.counters.proofs.CountedNumber.Laws as TD′
-use Rattle.call_burst.specs.Burst.{Burst, burstOf, burstNumber, numbersOf, tableAfter, listAfter}
+use Rattle.call_burst_lists.specs.Lists.{Burst, burstOf}
+use Rattle.call_burst.specs.Burst.{burstNumber, numbersOf, tableAfter, listAfter}
 use Rattle.counted_burst.proofs.burst_with as work
 use Rattle.counted_burst.proofs.burst_with.Symbol.{name as #work}
 use Rattle.counted_burst.proofs.burst as self

@@ -3,12 +3,13 @@
 ghost use mathlib.Core.Path.{_≡_};
 ghost use lib.ListN.{length};
 ghost use Rattle.counters.specs.History.{counted};
-ghost use Rattle.call_burst.specs.Burst.{burstOf, burstNumber, numbersOf, tableAfter, listAfter};
+ghost use Rattle.call_burst_lists.specs.Lists.{burstOf};
+ghost use Rattle.call_burst.specs.Burst.{burstNumber, numbersOf, tableAfter, listAfter};
 use counters::CountedNumber;
 use counters::Counters;
 
 // The counters after calls that gave these answer numbers, in order.
-fn raise_all(counters: Counters, numbers: &[u8]) -> Counters
+pub fn raise_all(counters: Counters, numbers: &[u8]) -> Counters
     ensures { λ r. ⌜ r ≡ counted counters (now (numbers .entry)) ⌝ }
 {
     let mut raised = counters;

@@ -12,6 +12,16 @@ pub use counted_datagram::datagram;
 pub use counted_ping_sent::ping_sent;
 pub use counted_sweep::sweep;
 pub use table::init;
+// by a reading of 32 bits: one front, `full_clock`, for all of them
+pub use call_low::FullClock;
+pub use call_low::full_clock;
+pub use clock32::LowMillis;
+pub use clock32::Widened;
+pub use clock32::widen;
+pub use counted_burst_low::burst_low;
+pub use counted_datagram_low::datagram_low;
+pub use counted_ping_sent_low::ping_sent_low;
+pub use counted_sweep_low::sweep_low;
 // the answers
 pub use call_answer::Outcome;
 pub use call_answer::Received;

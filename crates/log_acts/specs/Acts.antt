@@ -7,7 +7,7 @@ use Rattle.lists.specs.Lists.{any}
 use Rattle.bucket_model.specs.Rules.{isVerified, isOverdue}
 use Rattle.bucket_lookup.specs.declared.Lookup.{Lookup}
 use Rattle.bucket_lookup.specs.Steps.{found, inEntries}
-use Rattle.call_history.specs.Model.{Call, datagram, pingSent, sweep, closest}
+use Rattle.call_history.specs.Model.{Call, datagram, pingSent, sweep, closest, unclocked}
 use Rattle.call_history.specs.Words.{isPong}
 use Rattle.call_model.specs.Reading.{reading}
 use Rattle.call_answer.specs.declared.Outcome.{Outcome}
@@ -15,6 +15,7 @@ use Rattle.call_answer.specs.declared.Outcome.the-variants.{Refused, Ping, Pong
 use Rattle.call_answer.specs.declared.Received.{Received}
 use Rattle.call_answer.specs.Answer.{numberOf}
 use Rattle.log_history.specs.Past.{Asked, own, call, unreadable}
+use Rattle.log_history.specs.Why.{isOf}
 use Rattle.log_acts.specs.declared.Acted.{Acted}
 
 abbrev pub isPongOutcome : Outcome → Bool
@@ -61,6 +62,7 @@ actsBy X l n (datagram now unix address udp key bytes) =
 actsBy X l n (pingSent now key address udp tcp hash) = cond (sameBytes X key) (pingedActs n) (idle n)
 actsBy X l n (sweep now) = sweptActs l n now
 actsBy X l n (closest target room) = idle n
+actsBy X l n (unclocked c) = record { number = n; named = isOf X c; moves = false; pings = false; overdue = false; looks = false }
 
 unfoldable pub actsOf : Bytes → Lookup → ℕ → Asked → Acted
 actsOf X l n (own buckets key) = idle n

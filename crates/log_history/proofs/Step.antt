@@ -22,7 +22,7 @@ use Rattle.bucket_model.specs.Rules.{millis, ofKey, held, takesEntry, pinged, p
 use Rattle.bucket_model.proofs.Keys.{promoted-or-remaining}
 use Rattle.bucket_model.proofs.View.{Holds, keptEntries, keptReplacements, own-heard, own-pong-stays, own-pong-takes, own-pinged, own-joined, own-sweep, ofKey-kept}
 use Rattle.bucket_model.proofs.Promotion.{ofKey-promoted, ofKey-remaining}
-use Rattle.call_history.specs.Model.{Env, Call, datagram, pingSent, sweep, closest, Table, slot, bucketOf, answer, next}
+use Rattle.call_history.specs.Model.{Env, Call, datagram, pingSent, sweep, closest, unclocked, Table, slot, bucketOf, answer, next}
 use Rattle.call_history.specs.Words.{isPong, entryOf, replacementOf}
 use Rattle.call_history.proofs.Step.{byDatagram, byAnswer, swept-bucket, fresh-bucket, keccak-lawful}
 use Rattle.call_history.proofs.Sound.{TableSound, fresh-sound, next-sound}
@@ -173,6 +173,7 @@ module _ (e : Env) (s : Table) (ok : TableSound e s) (P : List Entry → List En
       byAnswer e (λ s′. P (entryOf e X s′) (replacementOf e X s′)) s (closest target room)
       (λ _. same X (when (closest target room)) P cases (refl, refl))
       (λ _. same X (when (closest target room)) P cases (refl, refl))
+  by-call X (unclocked c) cases = same X (when (unclocked c)) P cases (refl, refl)
 
 pub by-line : (X : Bytes) (P : List Entry → List Entry → Type 0) (st : Stage) (a : Asked) → SoundStage st → Cases X (at st a) P
     → P (seatIn X (stageAfter st a)) (placeIn X (stageAfter st a))

@@ -10,7 +10,7 @@ use Rattle.octets.proofs.Laws.{same-eq, same-refl}
 use Rattle.lists.specs.Lists.{any, empty, All}
 use Rattle.lists.proofs.Laws.{byTest, nil}
 use Rattle.bucket_model.specs.Rules.{isVerified, held}
-use Rattle.call_history.specs.Model.{Env, Call, datagram, pingSent, sweep, closest, Table, bucketOf, slot, answer}
+use Rattle.call_history.specs.Model.{Env, Call, datagram, pingSent, sweep, closest, unclocked, Table, bucketOf, slot, answer}
 use Rattle.call_history.specs.Words.{isPong, entryOf, replacementOf, pongFrom, heardFrom}
 use Rattle.call_history.proofs.Sound.{TableSound}
 use Rattle.log_history.specs.Past.{Asked, own, call, unreadable, Stage, before, running, stageAfter, Moment}
@@ -40,6 +40,7 @@ module _ (e : Env) (s : Table) (ok : TableSound e s) where
   unmoved X g (pingSent now key address udp tcp hash) = refl
   unmoved X g (sweep now) = refl
   unmoved X g (closest target room) = refl
+  unmoved X g (unclocked c) = refl
 
   -- of a node with an entry, the entry is all that is held
   held-seat : (X : Bytes) → empty (entryOf e X s) ≡ false → held X (bucketOf e s X) ≡ entryOf e X s
@@ -64,6 +65,7 @@ module _ (e : Env) (s : Table) (ok : TableSound e s) where
   moved X g (pingSent now key address udp tcp hash) = refl
   moved X g (sweep now) = refl
   moved X g (closest target room) = refl
+  moved X g (unclocked c) = refl
 
   tails-call : (X : Bytes) (c : Call) → tails X (at (running e s) (call c)) ≡ tailsAt X (running e s) (call c)
   unfolding stageAfter

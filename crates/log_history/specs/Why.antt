@@ -9,7 +9,7 @@ use Rattle.octets.specs.Octets.{Bytes, sameBytes}
 use Rattle.lists.specs.Lists.{any, empty, All}
 use Rattle.entry.specs.declared.Entry.{Entry}
 use Rattle.bucket_model.specs.Rules.{pingTimeout, isVerified, isOverdue, proofExpired}
-use Rattle.call_history.specs.Model.{Env, Call, datagram, pingSent, sweep, closest, Table, answer}
+use Rattle.call_history.specs.Model.{Env, Call, datagram, pingSent, sweep, closest, unclocked, Table, answer}
 use Rattle.call_history.specs.Words as Words
 use Rattle.call_history.specs.Words.{isPong, entryOf, replacementOf, pongFrom}
 use Rattle.log_history.specs.declared.Reason.{Reason}
@@ -50,6 +50,7 @@ movesBy X e s (datagram now unix address udp key bytes) =
 movesBy X e s (pingSent now key address udp tcp hash) = false
 movesBy X e s (sweep now) = false
 movesBy X e s (closest target room) = false
+movesBy X e s (unclocked c) = false
 
 abbrev pub moves : Bytes → Stage → Asked → Bool
 moves X (running e s) (call c) = movesBy X e s c
@@ -67,6 +68,7 @@ isOf X (datagram now unix address udp key bytes) = sameBytes X key
 isOf X (pingSent now key address udp tcp hash) = sameBytes X key
 isOf X (sweep now) = false
 isOf X (closest target room) = false
+isOf X (unclocked c) = isOf X c
 
 -- a "well-formed line has it as signer or ping target"
 abbrev pub namedIn : Bytes → Asked → Bool
@@ -83,6 +85,7 @@ isPingTo X (call (pingSent now key address udp tcp hash)) = sameBytes X key
 isPingTo X (call (datagram now unix address udp key bytes)) = false
 isPingTo X (call (sweep now)) = false
 isPingTo X (call (closest target room)) = false
+isPingTo X (call (unclocked c)) = false
 isPingTo X (own buckets key) = false
 isPingTo X unreadable = false
 
@@ -95,6 +98,7 @@ overdueAt X st (call (sweep now)) = any (λ p. isOverdue now (p .ping)) (heldIn 
 overdueAt X st (call (datagram now unix address udp key bytes)) = false
 overdueAt X st (call (pingSent now key address udp tcp hash)) = false
 overdueAt X st (call (closest target room)) = false
+overdueAt X st (call (unclocked c)) = false
 overdueAt X st (own buckets key) = false
 overdueAt X st unreadable = false
 

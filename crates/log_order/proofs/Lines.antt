@@ -5,7 +5,7 @@ use mathlib.Core.List.{List, [], _∷_, _++_, map, flatMap, append-assoc}
 use Rattle.octets.specs.Octets.{Bytes}
 use Rattle.lists.specs.Lists.{select, All}
 use Rattle.lists.proofs.Laws.{byTest, never}
-use Rattle.call_history.specs.Model.{Call, datagram, pingSent, sweep, closest}
+use Rattle.call_history.specs.Model.{Call, datagram, pingSent, sweep, closest, unclocked}
 use Rattle.call_history.specs.Chain.{IsCall}
 use Rattle.call_model.specs.Calls.{answerOn, bytesAfter}
 use Rattle.call_model.specs.Reading.{reading}
@@ -36,6 +36,7 @@ row s (datagram now unix address udp key bytes) = receivedRow (received s now un
 row s (pingSent now key address udp tcp hash) = numberRow (answerOn reading s (pingSent now key address udp tcp hash))
 row s (sweep now) = numberRow (answerOn reading s (sweep now))
 row s (closest target room) = numberRow (answerOn reading s (closest target room))
+row s (unclocked c) = numberRow (answerOn reading s (unclocked c))
 
 abbrev pub left : Bytes → Call → Bytes
 left s c = bytesAfter reading s c

@@ -12,7 +12,7 @@ use Rattle.keccak.specs.Sponge.{keccak256}
 use Rattle.table_model.proofs.Table.{length-table}
 use Rattle.table_model.proofs.Sound.{sized-table}
 use Rattle.printout.specs.Printout.{printout}
-use Rattle.call_history.specs.Model.{Env, Call, datagram, pingSent, sweep, closest, Table}
+use Rattle.call_history.specs.Model.{Env, Call, datagram, pingSent, sweep, closest, unclocked, Table}
 use Rattle.call_history.specs.Keccak.{withKeccak}
 use Rattle.call_history.specs.Chain.{IsCall}
 use Rattle.call_model.specs.Reading.{reading}
@@ -86,6 +86,7 @@ module _ (own : Bytes) (count : ℕ) (one : 1 ≤ count) (most : count ≤ 256) 
   same-row s s′ (pingSent now key address udp tcp hash) has h = ap numberRow h
   same-row s s′ (sweep now) has h = never (sym has)
   same-row s s′ (closest target room) has h = never (sym has)
+  same-row s s′ (unclocked c) has h = never (sym has)
 
   commutes : Commutes row left e Ok IsCall
   commutes =

@@ -12,7 +12,7 @@ use Rattle.log_line.specs.Fields.{said}
 use Rattle.log_line.specs.Forms.{lineOf}
 use Rattle.table_model.specs.Layout.{headerSound}
 use Rattle.table_model.specs.Sound.{tableSound}
-use Rattle.call_history.specs.Model.{Call, datagram, pingSent, sweep, closest}
+use Rattle.call_history.specs.Model.{Call, datagram, pingSent, sweep, closest, unclocked}
 use Rattle.call_model.specs.Calls.{answerOn, bytesAfter}
 use Rattle.call_model.specs.Reading.{reading}
 use Rattle.call_model.specs.AnyBytes.{SoundFor}
@@ -37,6 +37,7 @@ not-sound (datagram now unix address udp key bytes) h = never (sym (h .0) ∙ no
 not-sound (pingSent now key address udp tcp hash) h = never (sym (h .0) ∙ no-header)
 not-sound (sweep now) h = never (sym h ∙ nothing-sound)
 not-sound (closest target room) h = never (sym h ∙ nothing-sound)
+not-sound (unclocked c) h = not-sound c h
 
 pub no-table-number : (c : Call) → answerOn reading [] c ≡ 1
 no-table-number c = on-any-bytes reading .one-exactly [] c .1 (not-sound c)

@@ -17,7 +17,7 @@ use Rattle.bucket_model.specs.Rules.{ofKey, isVerified, isOverdue}
 use Rattle.bucket_model.proofs.View.{SameAs}
 use Rattle.bucket_lookup.specs.declared.Lookup.{Lookup}
 use Rattle.bucket_lookup.specs.Steps.{onlyAt, found, inEntries}
-use Rattle.call_history.specs.Model.{Env, Call, datagram, pingSent, sweep, closest, Table, fresh, slot, bucketOf, answer, next}
+use Rattle.call_history.specs.Model.{Env, Call, datagram, pingSent, sweep, closest, unclocked, Table, fresh, slot, bucketOf, answer, next}
 use Rattle.call_history.proofs.Step.{fresh-bucket}
 use Rattle.call_history.proofs.View.{other-datagram, other-pingSent}
 use Rattle.call_history.specs.Words.{isPong, entryOf, replacementOf}
@@ -157,6 +157,11 @@ module _ (X : Bytes) (l : Lookup) where
   as-closest (before owned) target room = record { named = refl; moves = refl; pings = refl; overdue = refl; number = refl }
   as-closest (running e t) target room = record { named = refl; moves = refl; pings = refl; overdue = refl; number = refl }
 
+  as-unclocked : (g : Stage) (c : Call) → let ask = call (unclocked c) in As X g ask (actsOf X l (numberAt g ask) ask)
+  unfolding actsOf actsBy
+  as-unclocked (before owned) c = record { named = refl; moves = refl; pings = refl; overdue = refl; number = refl }
+  as-unclocked (running e t) c = record { named = refl; moves = refl; pings = refl; overdue = refl; number = refl }
+
   acts-as : (st : State) (g : Stage) → Kept st g → Stands X g l → (ask : Asked) → As X g ask (actsOf X l (numberAt g ask) ask)
   unfolding actsOf
   acts-as st g k h (own buckets key) = as-own g buckets key
@@ -164,6 +169,7 @@ module _ (X : Bytes) (l : Lookup) where
   acts-as st g k h (call (pingSent now key address udp tcp hash)) = as-pingSent g now key address udp tcp hash
   acts-as st g k h (call (sweep now)) = as-sweep g h now
   acts-as st g k h (call (closest target room)) = as-closest g target room
+  acts-as st g k h (call (unclocked c)) = as-unclocked g c
   acts-as st g k h unreadable = as-unreadable g
 
 -- ---- the trail with one line more
@@ -216,6 +222,7 @@ module _ (X : Bytes) (l : Lookup) where
   after-call st g (some owner count one most t sound values) h n (closest target room) quiet =
       let e : Env = rulesFor count owner in
       byTest (eqb (answer e t (closest target room)) 0) (λ z. rw z h) (λ z. rw z h)
+  after-call st g (some owner count one most t sound values) h n (unclocked c) quiet = h
 
   pub unlooked : (st : State) (g : Stage) → Kept st g → Stands X g l → (n : ℕ) (ask : Asked) → actsOf X l n ask .looks ≡ false → Stands X (stageAfter g ask) l
   unfolding actsOf stageAfter

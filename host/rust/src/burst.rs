@@ -8,24 +8,38 @@ pub const MOST: usize = 32;
 /// The lists of a burst, which [`Burst::push`] keeps of one length: the datagrams end to end and their lengths;
 /// for each a signer's key of 64 bytes, an address of 17 (its length, and sixteen bytes), a UDP port and the
 /// two clocks.
-#[derive(Clone, Debug, Default, PartialEq, Eq)]
-pub struct Burst {
+#[derive(Clone, Debug, PartialEq, Eq)]
+pub struct Burst<Clock = MonotonicMillis> {
     pub buffer: Vec<u8>,
     pub lengths: Vec<usize>,
     pub signers: Vec<u8>,
     pub addresses: Vec<u8>,
     pub ports: Vec<u16>,
-    pub millis: Vec<MonotonicMillis>,
+    pub millis: Vec<Clock>,
     pub unix: Vec<UnixSeconds>,
 }
 
-impl Burst {
+impl<Clock> Default for Burst<Clock> {
+    fn default() -> Burst<Clock> {
+        Burst {
+            buffer: Vec::new(),
+            lengths: Vec::new(),
+            signers: Vec::new(),
+            addresses: Vec::new(),
+            ports: Vec::new(),
+            millis: Vec::new(),
+            unix: Vec::new(),
+        }
+    }
+}
+
+impl<Clock> Burst<Clock> {
     /// A datagram came from `address` and `port`, signed with the key `signer`, which is empty where the
     /// signature recovers none. A key that isn't 64 bytes goes as the empty one, which is refused with 5 too;
     /// an address that isn't of 4 or 16 bytes is refused with 6.
     pub fn push(
         &mut self,
-        clock: MonotonicMillis,
+        clock: Clock,
         unix: UnixSeconds,
         address: &[u8],
         port: u16,

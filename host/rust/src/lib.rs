@@ -15,6 +15,7 @@ use std::net::{IpAddr, SocketAddr};
 
 mod boot;
 mod burst;
+mod low;
 mod number;
 mod packet;
 #[allow(unsafe_code)]
@@ -23,6 +24,7 @@ pub mod write;
 
 pub use boot::{enode_text, read_enodes, write_enodes, End, ENODE_LINE};
 pub use burst::{Burst, MOST};
+pub use low::LowMillis;
 pub use number::Number;
 pub use packet::{Nodes, Packet};
 
@@ -239,22 +241,7 @@ impl Table {
         signer: &[u8],
         datagram: &[u8],
     ) -> Result<Accepted, Number> {
-        let code = sys::datagram(counters, &mut self.bytes, clock, unix, address, port, signer, datagram);
-        let value = valued(code)?;
-        let (kind, outcome) = (value & 255, value >> 8);
-        Ok(match kind {
-            1 => Accepted::Ping { ping_due: outcome == 1 },
-            2 => Accepted::Pong(match outcome {
-                0 => Standing::Tail,
-                1 => Standing::TookEntry,
-                2 => Standing::Waiting,
-                _ => Standing::RangeFull,
-            }),
-            3 => Accepted::FindNode,
-            4 => Accepted::Neighbors,
-            5 => Accepted::EnrRequest,
-            _ => Accepted::EnrResponse,
-        })
+        accepted(sys::datagram(counters, &mut self.bytes, clock, unix, address, port, signer, datagram))
     }
 
     /// [`Table::datagram`] of a datagram that a socket received from this address; `signer` is None where the
@@ -376,6 +363,25 @@ fn done(number: u8) -> Result<(), Number> {
     } else {
         Err(Number(number))
     }
+}
+
+/// The answer to a datagram.
+fn accepted(code: u32) -> Result<Accepted, Number> {
+    let value = valued(code)?;
+    let (kind, outcome) = (value & 255, value >> 8);
+    Ok(match kind {
+        1 => Accepted::Ping { ping_due: outcome == 1 },
+        2 => Accepted::Pong(match outcome {
+            0 => Standing::Tail,
+            1 => Standing::TookEntry,
+            2 => Standing::Waiting,
+            _ => Standing::RangeFull,
+        }),
+        3 => Accepted::FindNode,
+        4 => Accepted::Neighbors,
+        5 => Accepted::EnrRequest,
+        _ => Accepted::EnrResponse,
+    })
 }
 
 /// The value above an answer number.

@@ -6,7 +6,7 @@
 //! write inside what it is lent, for any contents. An empty slice passes as a pointer that isn't null.
 //! The clocks and the answer numbers pass as the numbers that they are.
 
-use crate::{Burst, Counters, MonotonicMillis, Node, Number, UnixSeconds};
+use crate::{Burst, Counters, LowMillis, MonotonicMillis, Node, Number, UnixSeconds};
 
 extern "C" {
     fn coghammer_init(table: *mut u8, table_len: usize, key: *const u8, key_len: usize, buckets: usize)
@@ -73,6 +73,67 @@ extern "C" {
         millis_len: usize,
         unix: *const UnixSeconds,
         unix_len: usize,
+    ) -> u8;
+    fn coghammer_datagram_low(
+        counters: *mut Counters,
+        table: *mut u8,
+        table_len: usize,
+        reading: LowMillis,
+        unix: UnixSeconds,
+        address: *const u8,
+        address_len: usize,
+        port: u16,
+        signer: *const u8,
+        signer_len: usize,
+        datagram: *const u8,
+        datagram_len: usize,
+    ) -> u32;
+    fn coghammer_ping_sent_low(
+        counters: *mut Counters,
+        table: *mut u8,
+        table_len: usize,
+        reading: LowMillis,
+        key: *const u8,
+        key_len: usize,
+        address: *const u8,
+        address_len: usize,
+        udp: u16,
+        tcp: u16,
+        hash: *const u8,
+        hash_len: usize,
+    ) -> u8;
+    fn coghammer_sweep_low(
+        counters: *mut Counters,
+        table: *mut u8,
+        table_len: usize,
+        reading: LowMillis,
+    ) -> u8;
+    fn coghammer_burst_low(
+        counters: *mut Counters,
+        table: *mut u8,
+        table_len: usize,
+        numbers: *mut Number,
+        numbers_len: usize,
+        buffer: *const u8,
+        buffer_len: usize,
+        lengths: *const usize,
+        lengths_len: usize,
+        signers: *const u8,
+        signers_len: usize,
+        addresses: *const u8,
+        addresses_len: usize,
+        ports: *const u16,
+        ports_len: usize,
+        readings: *const LowMillis,
+        readings_len: usize,
+        unix: *const UnixSeconds,
+        unix_len: usize,
+    ) -> u8;
+    fn coghammer_full_clock(
+        table: *const u8,
+        table_len: usize,
+        reading: LowMillis,
+        clock: *mut MonotonicMillis,
     ) -> u8;
     fn coghammer_clear(counters: *mut Counters);
     fn coghammer_state(table: *const u8, table_len: usize, told: *mut [u64; 4]) -> u8;
@@ -193,69 +254,119 @@ pub fn init(table: &mut [u8], key: &[u8], buckets: usize) -> u8 {
     unsafe { coghammer_init(table.as_mut_ptr(), table.len(), key.as_ptr(), key.len(), buckets) }
 }
 
-#[allow(clippy::too_many_arguments)]
-pub fn datagram(
-    counters: &mut Counters,
-    table: &mut [u8],
-    clock: MonotonicMillis,
-    unix: UnixSeconds,
-    address: &[u8],
-    port: u16,
-    signer: &[u8],
-    datagram: &[u8],
-) -> u32 {
-    // SAFETY: `Counters` has C's layout and is lent for writing, as the table is; the rest is read.
-    unsafe {
-        coghammer_datagram(
-            counters,
-            table.as_mut_ptr(),
-            table.len(),
-            clock,
-            unix,
-            address.as_ptr(),
-            address.len(),
-            port,
-            signer.as_ptr(),
-            signer.len(),
-            datagram.as_ptr(),
-            datagram.len(),
-        )
-    }
+/// The calls with a clock, at a clock of 64 bits or at a reading of 32: what is passed is the same but for it.
+macro_rules! calls {
+    ($clock:ty: $datagram:ident $ping_sent:ident $sweep:ident $burst:ident
+        by $c_datagram:ident $c_ping_sent:ident $c_sweep:ident $c_burst:ident) => {
+        #[allow(clippy::too_many_arguments)]
+        pub fn $datagram(
+            counters: &mut Counters,
+            table: &mut [u8],
+            clock: $clock,
+            unix: UnixSeconds,
+            address: &[u8],
+            port: u16,
+            signer: &[u8],
+            datagram: &[u8],
+        ) -> u32 {
+            // SAFETY: `Counters` has C's layout and is lent for writing, as the table is; the rest is read.
+            unsafe {
+                $c_datagram(
+                    counters,
+                    table.as_mut_ptr(),
+                    table.len(),
+                    clock,
+                    unix,
+                    address.as_ptr(),
+                    address.len(),
+                    port,
+                    signer.as_ptr(),
+                    signer.len(),
+                    datagram.as_ptr(),
+                    datagram.len(),
+                )
+            }
+        }
+
+        #[allow(clippy::too_many_arguments)]
+        pub fn $ping_sent(
+            counters: &mut Counters,
+            table: &mut [u8],
+            clock: $clock,
+            key: &[u8],
+            address: &[u8],
+            udp: u16,
+            tcp: u16,
+            hash: &[u8],
+        ) -> u8 {
+            // SAFETY: as for a datagram.
+            unsafe {
+                $c_ping_sent(
+                    counters,
+                    table.as_mut_ptr(),
+                    table.len(),
+                    clock,
+                    key.as_ptr(),
+                    key.len(),
+                    address.as_ptr(),
+                    address.len(),
+                    udp,
+                    tcp,
+                    hash.as_ptr(),
+                    hash.len(),
+                )
+            }
+        }
+
+        pub fn $sweep(counters: &mut Counters, table: &mut [u8], clock: $clock) -> u8 {
+            // SAFETY: counters and table are lent for writing.
+            unsafe { $c_sweep(counters, table.as_mut_ptr(), table.len(), clock) }
+        }
+
+        pub fn $burst(
+            counters: &mut Counters,
+            table: &mut [u8],
+            numbers: &mut [Number],
+            burst: &Burst<$clock>,
+        ) -> u8 {
+            let Burst { buffer, lengths, signers, addresses, ports, millis, unix } = burst;
+            // SAFETY: counters, table and numbers are lent for writing, the lists are read; each length counts
+            // the elements of its own list, and the lists may be of any lengths.
+            unsafe {
+                $c_burst(
+                    counters,
+                    table.as_mut_ptr(),
+                    table.len(),
+                    numbers.as_mut_ptr(),
+                    numbers.len(),
+                    buffer.as_ptr(),
+                    buffer.len(),
+                    lengths.as_ptr(),
+                    lengths.len(),
+                    signers.as_ptr(),
+                    signers.len(),
+                    addresses.as_ptr(),
+                    addresses.len(),
+                    ports.as_ptr(),
+                    ports.len(),
+                    millis.as_ptr(),
+                    millis.len(),
+                    unix.as_ptr(),
+                    unix.len(),
+                )
+            }
+        }
+    };
 }
 
-#[allow(clippy::too_many_arguments)]
-pub fn ping_sent(
-    counters: &mut Counters,
-    table: &mut [u8],
-    clock: MonotonicMillis,
-    key: &[u8],
-    address: &[u8],
-    udp: u16,
-    tcp: u16,
-    hash: &[u8],
-) -> u8 {
-    // SAFETY: as for `datagram`.
-    unsafe {
-        coghammer_ping_sent(
-            counters,
-            table.as_mut_ptr(),
-            table.len(),
-            clock,
-            key.as_ptr(),
-            key.len(),
-            address.as_ptr(),
-            address.len(),
-            udp,
-            tcp,
-            hash.as_ptr(),
-            hash.len(),
-        )
-    }
-}
+calls!(MonotonicMillis: datagram ping_sent sweep burst
+    by coghammer_datagram coghammer_ping_sent coghammer_sweep coghammer_burst);
+calls!(LowMillis: datagram_low ping_sent_low sweep_low burst_low
+    by coghammer_datagram_low coghammer_ping_sent_low coghammer_sweep_low coghammer_burst_low);
 
-pub fn sweep(counters: &mut Counters, table: &mut [u8], clock: MonotonicMillis) -> u8 {
-    // SAFETY: counters and table are lent for writing.
-    unsafe { coghammer_sweep(counters, table.as_mut_ptr(), table.len(), clock) }
+pub fn full_clock(table: &[u8], reading: LowMillis, clock: &mut MonotonicMillis) -> u8 {
+    // SAFETY: a slice that is read, a number that is lent for writing.
+    unsafe { coghammer_full_clock(table.as_ptr(), table.len(), reading, clock) }
 }
 
 pub fn closest(list: &mut [Node], table: &[u8], target: &[u8]) -> u32 {
@@ -268,35 +379,6 @@ pub fn closest(list: &mut [Node], table: &[u8], target: &[u8]) -> u32 {
             table.len(),
             target.as_ptr(),
             target.len(),
-        )
-    }
-}
-
-pub fn burst(counters: &mut Counters, table: &mut [u8], numbers: &mut [Number], burst: &Burst) -> u8 {
-    let Burst { buffer, lengths, signers, addresses, ports, millis, unix } = burst;
-    // SAFETY: counters, table and numbers are lent for writing, the lists are read; each length counts the
-    // elements of its own list, and the lists may be of any lengths.
-    unsafe {
-        coghammer_burst(
-            counters,
-            table.as_mut_ptr(),
-            table.len(),
-            numbers.as_mut_ptr(),
-            numbers.len(),
-            buffer.as_ptr(),
-            buffer.len(),
-            lengths.as_ptr(),
-            lengths.len(),
-            signers.as_ptr(),
-            signers.len(),
-            addresses.as_ptr(),
-            addresses.len(),
-            ports.as_ptr(),
-            ports.len(),
-            millis.as_ptr(),
-            millis.len(),
-            unix.as_ptr(),
-            unix.len(),
         )
     }
 }

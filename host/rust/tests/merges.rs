@@ -56,17 +56,6 @@ impl Lent {
     }
 }
 
-/// The same call at another millisecond.
-fn at(call: Call, millis: u64) -> Call {
-    match call {
-        Call::Datagram { unix, address, port, signer, datagram, .. } => {
-            Call::Datagram { now: millis, unix, address, port, signer, datagram }
-        }
-        Call::PingSent { key, endpoint, hash, .. } => Call::PingSent { now: millis, key, endpoint, hash },
-        other => other,
-    }
-}
-
 /// The kept bucket that a datagram's or a ping-sent's key falls in.
 fn bucket(table: &table::Table, call: &Call) -> Option<usize> {
     match call {
@@ -110,7 +99,7 @@ fn stretches_in_another_order() {
             let most = calls.random.between(2, 12) as usize;
             let mut stretch = Vec::new();
             for _ in 0..10 * most {
-                let call = at(calls.next(Some(&theirs)), millis);
+                let call = calls.next(Some(&theirs)).at(millis);
                 if stretch.len() < most && bucket(&theirs, &call).is_some() {
                     stretch.push(call);
                 }

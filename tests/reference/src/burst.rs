@@ -2,6 +2,7 @@
 
 use crate::calls::Call;
 use crate::layout;
+use crate::low;
 use crate::table::Counters;
 use crate::Number;
 
@@ -70,11 +71,23 @@ impl Burst {
     /// "Table, tally and numbers are those of handing them over one at a time, in order"; "28, not counted in
     /// the tally, before anything is handled".
     pub fn run(&self, memory: &mut [u8], counters: &mut Counters, numbers: &mut [u8]) -> Number {
+        self.run_each(numbers, |call| layout::run(memory, counters, call).number())
+    }
+
+    /// The same where `millis` are readings of a counter of 32 bits (C-20): each is widened by the table's clock at its turn.
+    pub fn run_low(&self, memory: &mut [u8], counters: &mut Counters, numbers: &mut [u8]) -> Number {
+        self.run_each(numbers, |call| {
+            let Call::Datagram { now, .. } = call else { unreachable!() };
+            low::run(memory, counters, call, *now as u32).number()
+        })
+    }
+
+    fn run_each(&self, numbers: &mut [u8], mut run: impl FnMut(&Call) -> Number) -> Number {
         if !self.is_whole(numbers.len()) {
             return 28;
         }
         for (call, number) in self.calls().iter().zip(numbers) {
-            *number = layout::run(memory, counters, call).number();
+            *number = run(call);
         }
         0
     }

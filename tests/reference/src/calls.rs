@@ -58,6 +58,26 @@ pub enum Reply {
 }
 
 impl Call {
+    /// The same call at another millisecond; a closest call has none.
+    pub fn at(&self, millis: u64) -> Call {
+        let mut call = self.clone();
+        match &mut call {
+            Call::Datagram { now, .. } | Call::PingSent { now, .. } | Call::Sweep { now } => *now = millis,
+            Call::Closest { .. } => {}
+        }
+        call
+    }
+
+    /// Its answer where it is refused.
+    pub fn refused(&self, number: Number) -> Reply {
+        match self {
+            Call::Datagram { .. } => Reply::Datagram(Err(number)),
+            Call::PingSent { .. } => Reply::PingSent(Err(number)),
+            Call::Sweep { .. } => Reply::Sweep(Err(number)),
+            Call::Closest { .. } => Reply::Closest(Err(number)),
+        }
+    }
+
     pub fn run(&self, table: &mut Table, counters: &mut Counters) -> Reply {
         match self {
             Call::Datagram { now, unix, address, port, signer, datagram } => {

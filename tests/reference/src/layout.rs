@@ -176,24 +176,24 @@ pub fn init(memory: &mut [u8], buckets: u64, own_key: &[u8]) -> Number {
     }
 }
 
+/// The header and the buckets that a call touches, if they are sound.
+pub fn touched_table(memory: &[u8], call: &Call) -> Option<Table> {
+    read_slots(memory, &touched(&read_header(memory)?, call))
+}
+
 /// A call of any kind. "A refusal returns its number alone and changes nothing lent but the tally."
 pub fn run(memory: &mut [u8], counters: &mut Counters, call: &Call) -> Reply {
-    let slots = read_header(memory).map(|table| touched(&table, call));
-    let Some(mut table) = slots.as_ref().and_then(|slots| read_slots(memory, slots)) else {
+    let Some(mut table) = touched_table(memory, call) else {
         if !matches!(call, Call::Closest { .. }) {
             counters.raise(1);
         }
-        return match call {
-            Call::Datagram { .. } => Reply::Datagram(Err(1)),
-            Call::PingSent { .. } => Reply::PingSent(Err(1)),
-            Call::Sweep { .. } => Reply::Sweep(Err(1)),
-            Call::Closest { .. } => Reply::Closest(Err(1)),
-        };
+        return call.refused(1);
     };
+    let slots = touched(&table, call);
     let reply = call.run(&mut table, counters);
     if reply.number() == 0 {
         memory[..HEADER].copy_from_slice(&header_bytes(&table));
-        for slot in slots.into_iter().flatten() {
+        for slot in slots {
             memory[size(slot)..size(slot + 1)].copy_from_slice(&bucket_bytes(&table.buckets[slot]));
         }
     }

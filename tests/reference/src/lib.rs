@@ -37,6 +37,7 @@ pub mod generator;
 pub mod keccak;
 pub mod layout;
 pub mod log;
+pub mod low;
 pub mod packet;
 pub mod rlp;
 pub mod table;

@@ -1,8 +1,9 @@
 -- `counted_burst::burst_with` meets its contract. Assumes nothing.
+use mathlib.Core.Bool.{false}
 use native.Mathlib.Omega.{arith}
 use borrow.Author.Needs.{needs}
 use lib.ListN.{length}
-use Rattle.call_burst.specs.Burst.{Burst, burstOf}
+use Rattle.call_burst_lists.specs.Lists.{Burst, burstOf}
 use Rattle.counted_burst.proofs.Counted.{nothing-counted, all-counted}
 use Rattle.counted_burst.proofs.burst_with.Statement.{statement}
 use Rattle.counted_burst.proofs.burst_with.Tie as tie
@@ -21,7 +22,7 @@ returns c =
         on .ensures .1 .0,
         (
           on .ensures .1 .1,
-          nothing-counted (start .args .counters) (start .args .table .now) (lent start) (length (start .args .numbers .now)) (on .result) (on .ensures .0) (λ e. omega arith),
+          nothing-counted false (start .args .counters) (start .args .table .now) (lent start) (length (start .args .numbers .now)) (on .result) (on .ensures .0) (λ e. omega arith),
         ),
       ),
     )
@@ -35,7 +36,7 @@ returns-2 c =
         on .ensures .1 .0,
         (
           on .ensures .1 .1,
-          all-counted (start .args .counters) (start .args .table .now) (lent start) (start .args .numbers .now) (on .last .1 .0) (on .result) (c .raise-all .result)
+          all-counted false (start .args .counters) (start .args .table .now) (lent start) (start .args .numbers .now) (on .last .1 .0) (on .result) (c .raise-all .result)
               (on .ensures .0) (omega arith) (on .ensures .1 .1) (c .raise-all .ensures),
         ),
       ),
