@@ -83,7 +83,7 @@ impl Lookup {
         let e = self.entry;
         let ping = e.ping;
         let held = self.is_held();
-        bucket_entry::both(held, bucket_entry::is_overdue(ping, clock))
+        bucket_entry::both(held, bucket_times::is_overdue(ping, clock))
     }
 
     // 16
@@ -102,7 +102,7 @@ impl Lookup {
         let e = self.entry;
         let ping = e.ping;
         let held = self.is_held();
-        bucket_entry::both(held, bucket_entry::is_out(ping))
+        bucket_entry::both(held, bucket_times::is_out(ping))
     }
 
     // 18, with the number of replacements
@@ -147,7 +147,7 @@ impl Lookup {
             return true;
         }
         let verified = bucket_entry::is_verified(e, address, udp, clock);
-        let open = bucket_entry::both(!verified, !bucket_entry::is_out(ping));
+        let open = bucket_entry::both(!verified, !bucket_times::is_out(ping));
         bucket_entry::both(bucket_entry::is_at(e, address, udp), open)
     }
 }

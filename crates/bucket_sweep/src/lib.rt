@@ -18,9 +18,9 @@ fn stays(e: Entry, waiting: bool, clock: MonotonicMillis) -> bool
 {
     let ping = e.ping;
     let proof = e.proof;
-    let alive = !bucket_entry::is_overdue(ping, clock);
+    let alive = !bucket_times::is_overdue(ping, clock);
     if waiting {
-        return bucket_entry::both(alive, !bucket_entry::proof_expired(proof, clock));
+        return bucket_entry::both(alive, !bucket_times::proof_expired(proof, clock));
     }
     alive
 }
@@ -52,7 +52,7 @@ fn is_promoted(l: EntryList, e: Entry) -> bool
     let proof = e.proof;
     let at = e.endpoint;
     bucket_entry::both(
-        bucket_entry::is_proved(proof),
+        bucket_times::is_proved(proof),
         bucket_range::may_take(l, at),
     )
 }

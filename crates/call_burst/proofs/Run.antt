@@ -10,10 +10,12 @@ use lib.Seq.{take-suc-set, take-all}
 use Rattle.octets.specs.Octets.{Bytes}
 use Rattle.call_burst_lists.specs.Lists.{Burst, sum, isWhole}
 use Rattle.call_burst_lists.proofs.Sums.{rest-next}
+use Rattle.call_burst_step.specs.Datagram.{callAt}
+use Rattle.call_burst_step.specs.Steps.{answerBy, bytesBy}
 use Rattle.call_history.specs.Model.{Call}
 use Rattle.call_history.specs.Chain.{answersOn, bytesAfterAll}
-use Rattle.call_burst.specs.Burst.{burstNumber, callAt, callsFrom, callsOf, BurstKept, LowBurstKept}
-use Rattle.call_burst.specs.Steps.{answerBy, bytesBy, tableBy, numbersBy, listBy}
+use Rattle.call_burst.specs.Burst.{burstNumber, callsFrom, callsOf, BurstKept, LowBurstKept}
+use Rattle.call_burst.specs.Steps.{tableBy, numbersBy, listBy}
 
 module _ (low : Bool) where
   abbrev pub tableLast : Bytes → List Call → Bytes

@@ -1,12 +1,13 @@
 -- A burst: datagrams that one call hands over (document 02, C-15).
-use Prim.Native.Nat.{ℕ, zero, suc, _+_, _*_}
+use Prim.Native.Nat.{ℕ, zero, suc, _+_}
 use mathlib.Core.Path.{_≡_}
 use mathlib.Core.Bool.{cond}
 use mathlib.Core.List.{List, [], _∷_}
 use lib.ListN.{length, getD}
-use Rattle.octets.specs.Octets.{Bytes, part}
-use Rattle.call_burst_lists.specs.Lists.{Burst, isWhole, signerIn, addressIn}
-use Rattle.call_history.specs.Model.{Call, datagram}
+use Rattle.octets.specs.Octets.{Bytes}
+use Rattle.call_burst_lists.specs.Lists.{Burst, isWhole}
+use Rattle.call_burst_step.specs.Datagram.{callAt}
+use Rattle.call_history.specs.Model.{Call}
 use Rattle.call_history.specs.Chain.{answersOn, bytesAfterAll}
 use Rattle.call_model.specs.Calls.{answerOn, bytesAfter}
 use Rattle.call_model.specs.Reading.{reading}
@@ -15,12 +16,6 @@ use Rattle.call_low.specs.Got.{answerLow, bytesLow}
 -- "Refusals: 28, .. before anything is handled"
 abbrev pub burstNumber : Burst → ℕ → ℕ
 burstNumber b room = cond (isWhole b room) 0 28
-
--- datagram i, whose bytes begin at index at, as a call of its own
-abbrev pub callAt : Burst → ℕ → ℕ → Call
-callAt b i at =
-    datagram (getD (b .millis) i 0) (getD (b .unix) i 0) (addressIn (part (b .addresses) (17 * i) 17)) (getD (b .ports) i 0)
-    (signerIn (part (b .signers) (64 * i) 64)) (part (b .buffer) at (getD (b .lengths) i 0))
 
 -- n of them from datagram i on
 unfoldable pub callsFrom : Burst → ℕ → ℕ → ℕ → List Call

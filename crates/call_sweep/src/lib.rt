@@ -36,10 +36,10 @@ fn entry_stays(bytes: &[u8], at: usize, waiting: bool, time: MonotonicMillis) ->
     ensures { λ r. ⌜ r ≡ stays waiting (time .0) (decodeEntry (part (now (bytes .entry)) at 143)) ⌝ }
 {
     let ping = entry::ping_of(entry::load_stamp(bytes, at + 102));
-    let alive = !bucket_entry::is_overdue(ping, time);
+    let alive = !bucket_times::is_overdue(ping, time);
     if waiting {
         let proof = entry::proof_of(entry::load_stamp(bytes, at + 93));
-        return bucket_entry::both(alive, !bucket_entry::proof_expired(proof, time));
+        return bucket_entry::both(alive, !bucket_times::proof_expired(proof, time));
     }
     alive
 }

@@ -1,2 +1,1 @@
 pub mod AnswerRows
-pub mod AnswerLine

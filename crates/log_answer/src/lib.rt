@@ -1,4 +1,4 @@
-// The answer to a line of a log, as a line of text, written from the start of lent bytes.
+// Rows of an answer to a line of a log, as a line of text, written from the start of lent bytes.
 ghost use mathlib.Core.Path.{_≡_};
 ghost use mathlib.Core.List.{[], _∷_};
 ghost use Prim.Native.Nat.{_≤_};
@@ -7,9 +7,6 @@ ghost use Rattle.octets.specs.Octets.{store};
 ghost use Rattle.text.specs.Decimals.{decimal};
 ghost use Rattle.text.specs.Rows.{row};
 ghost use Rattle.log_answer.specs.AnswerRows.{answerRoom, numberRow, pingFields, pongFields};
-ghost use Rattle.log_answer.specs.AnswerLine.{receivedRow};
-use call_answer::Outcome;
-use call_answer::Received;
 use call_answer::Standing;
 use entry::PingState;
 use printout_rows::key_field;
@@ -102,26 +99,5 @@ pub fn put_pong(out: &mut [u8], standing: Standing, key: [u8; 64]) -> usize
         Standing::TookEntry => put_word_row(out, b"seat"),
         Standing::RangeFull => put_word_row(out, b"wait"),
         Standing::Waiting(ping) => put_waiting(out, key, ping),
-    }
-}
-
-// The line that answers an `rx`; its length.
-pub fn put_received(out: &mut [u8], received: Received) -> usize
-    requires { ⌜ answerRoom ≤ length (now out) ⌝ }
-    ensures len { λ r. ⌜ r ≡ length (receivedRow received) ⌝ }
-    ensures bytes { λ _. ⌜ now (out .exit) ≡ store (now (out .entry)) 0 (receivedRow received) ⌝ }
-    ensures size { λ r. ⌜ r ≤ answerRoom ⌝ }
-{
-    let outcome = received.outcome;
-    let head = received.head;
-    let key = head.key;
-    match outcome {
-        Outcome::Refused(n) => put_number(out, n),
-        Outcome::Ping(_, due) => put_ping(out, due),
-        Outcome::Pong(_, standing) => put_pong(out, standing, key),
-        Outcome::FindNode(_) => put_word_row(out, b"find"),
-        Outcome::Neighbors(_) => put_word_row(out, b"nodes"),
-        Outcome::EnrRequest(_) => put_word_row(out, b"enr"),
-        Outcome::EnrResponse(_) => put_word_row(out, b"record"),
     }
 }

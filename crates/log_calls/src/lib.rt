@@ -9,7 +9,7 @@ ghost use Rattle.call_model.specs.Reading.{reading};
 ghost use Rattle.call_datagram.specs.Received.{received};
 ghost use Rattle.log_line.specs.Fields.{said};
 ghost use Rattle.log_answer.specs.AnswerRows.{answerRoom, numberRow};
-ghost use Rattle.log_answer.specs.AnswerLine.{receivedRow};
+ghost use Rattle.log_received.specs.AnswerLine.{receivedRow};
 use log_answer::put_number;
 use log_line::decode_field;
 use node::MonotonicMillis;
@@ -49,7 +49,7 @@ pub fn rx(
         &key[0..k],
         &bytes[0..n],
     );
-    log_answer::put_received(out, received)
+    log_received::put_received(out, received)
 }
 
 // `sent`: milliseconds, key, address, UDP port, TCP port, hash.

@@ -17,7 +17,7 @@ use Rattle.log_line.specs.declared.Line.{Line}
 use Rattle.log_line.specs.declared.Line.the-variants.{Own, Rx, Sent, Sweep, Unreadable}
 use Rattle.log_line.specs.Forms.{lineOf}
 use Rattle.log_answer.specs.AnswerRows.{numberRow}
-use Rattle.log_answer.specs.AnswerLine.{receivedRow}
+use Rattle.log_received.specs.AnswerLine.{receivedRow}
 use Rattle.log_state.specs.State.{State}
 use Rattle.log_own.specs.OwnLine.{ownAnswer, ownAfter}
 use Rattle.log_history.specs.Past.{Asked, own, call, unreadable, askedBy, asked, Past, readAll}

@@ -24,7 +24,7 @@ use Rattle.call_order.proofs.Lists.{Commutes, kept-after, merges-alike}
 use Rattle.call_order.proofs.Bytes.{SameAnswer, IsForm, form-left, bytes-either, answer-either}
 use Rattle.log_lines.specs.Lines.{Held}
 use Rattle.log_answer.specs.AnswerRows.{numberRow}
-use Rattle.log_answer.specs.AnswerLine.{receivedRow}
+use Rattle.log_received.specs.AnswerLine.{receivedRow}
 use Rattle.log_state.specs.State.{State, startState}
 use Rattle.log_history.specs.Past.{asked, Stage, running, rulesFor, nothingRead}
 use Rattle.log_replay.specs.Replay.{ending, replayed}

@@ -19,7 +19,7 @@ use Rattle.call_model.specs.AnyBytes.{SoundFor}
 use Rattle.call_model.proofs.AnyBytes.{on-any-bytes}
 use Rattle.call_datagram.specs.Received.{received}
 use Rattle.log_answer.specs.AnswerRows.{numberRow}
-use Rattle.log_answer.specs.AnswerLine.{receivedRow}
+use Rattle.log_received.specs.AnswerLine.{receivedRow}
 use Rattle.log_replay.specs.Replay.{withTable, lineAnswer, lineAfter, answer, after}
 use Rattle.log_replay.specs.Claims.{isCallLine, withoutTable, NoTable}
 

@@ -14,7 +14,7 @@ use Rattle.call_model.specs.Calls.{answerOn, bytesAfter}
 use Rattle.call_model.specs.Reading.{reading}
 use Rattle.call_datagram.specs.Received.{received}
 use Rattle.log_answer.specs.AnswerRows.{numberRow}
-use Rattle.log_answer.specs.AnswerLine.{receivedRow}
+use Rattle.log_received.specs.AnswerLine.{receivedRow}
 use Rattle.log_state.specs.State.{State, startState}
 use Rattle.log_own.specs.OwnLine.{ownAnswer, ownAfter}
 use Rattle.printout.specs.Printout.{printout}

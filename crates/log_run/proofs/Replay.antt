@@ -8,7 +8,7 @@ use Rattle.text.specs.Rows.{row}
 use Rattle.call_answer.specs.Answer.{numberOf}
 use Rattle.call_datagram.specs.Received.{received}
 use Rattle.call_datagram.proofs.Answered.{answer-number}
-use Rattle.log_answer.specs.AnswerLine.{addedFields, receivedRow}
+use Rattle.log_received.specs.AnswerLine.{addedFields, receivedRow}
 use Rattle.log_lines.specs.Lines.{Held, whole, tooLong}
 use Rattle.log_line.specs.declared.Line.{Line}
 use Rattle.log_line.specs.declared.Line.the-variants.{Own, Rx, Sent, Sweep, Unreadable}

@@ -3,7 +3,7 @@ use Rattle.call_history.specs.Model.{datagram}
 use Rattle.call_model.specs.Calls.{bytesAfter}
 use Rattle.call_model.specs.Reading.{reading}
 use Rattle.call_datagram.specs.Received.{received}
-use Rattle.log_answer.specs.AnswerLine.{receivedRow}
+use Rattle.log_received.specs.AnswerLine.{receivedRow}
 use Rattle.log_line.proofs.Decoded.{decoded}
 use Rattle.log_calls.proofs.CallLines.{answered-three}
 use borrow.Author.Needs.{needs}

@@ -6,7 +6,7 @@ use Rattle.call_model.specs.Reading.{reading}
 use Rattle.call_datagram.specs.Received.{received}
 use Rattle.log_line.specs.Fields.{said}
 use Rattle.log_answer.specs.AnswerRows.{numberRow}
-use Rattle.log_answer.specs.AnswerLine.{receivedRow}
+use Rattle.log_received.specs.AnswerLine.{receivedRow}
 use Rattle.log_replay.specs.Replay.{lineAfter, lineAnswer}
 use Rattle.log_replay.proofs.Fields.{read-short, read-spans}
 use Rattle.log_replay.proofs.Answered.{unchanged, called, by-line}

@@ -1,8 +1,8 @@
--- `log_answer::put_received` meets its contract. Assumes nothing.
-use Rattle.log_answer.specs.AnswerLine.{receivedRow}
+-- `log_received::put_received` meets its contract. Assumes nothing.
+use Rattle.log_received.specs.AnswerLine.{receivedRow}
 use borrow.Author.Needs.{needs}
-use Rattle.log_answer.proofs.put_received.Statement.{statement}
-use Rattle.log_answer.proofs.put_received.Tie as tie
+use Rattle.log_received.proofs.put_received.Statement.{statement}
+use Rattle.log_received.proofs.put_received.Tie as tie
 
 returns : tie.Need-returns
 unfolding receivedRow

@@ -1,12 +1,12 @@
--- `call_burst::time_at` meets its contract. Assumes nothing.
+-- `call_burst_step::time_at` meets its contract. Assumes nothing.
 use mathlib.Core.Path.{_≡_, sym, ap}
 use mathlib.Core.Bool.{Bool, true, false}
 use Prim.Native.Nat.{_<_}
 use native.Mathlib.Omega.{arith}
 use lib.ListN.{length}
-use Rattle.call_burst.specs.Steps.{timeAt}
-use Rattle.call_burst.proofs.time_at.Statement.{statement}
-use Rattle.call_burst.proofs.time_at.Tie as tie
+use Rattle.call_burst_step.specs.Steps.{timeAt}
+use Rattle.call_burst_step.proofs.time_at.Statement.{statement}
+use Rattle.call_burst_step.proofs.time_at.Tie as tie
 
 -- the index is below the length of the list that is looked at
 in-readings : (c : tie.Start) → c .args .low ≡ true → c .args .i < length (c .args .readings .now)

@@ -1,9 +1,9 @@
--- `call_burst::receive` meets its contract. Assumes nothing.
+-- `call_burst_step::receive` meets its contract. Assumes nothing.
 use mathlib.Core.Path.{_≡_, sym, ap, _∙_}
 use borrow.Author.Needs.{needs}
-use Rattle.call_burst.proofs.Parts.{at-full, at-reading}
-use Rattle.call_burst.proofs.receive.Statement.{statement}
-use Rattle.call_burst.proofs.receive.Tie as tie
+use Rattle.call_burst_step.proofs.Parts.{at-full, at-reading}
+use Rattle.call_burst_step.proofs.receive.Statement.{statement}
+use Rattle.call_burst_step.proofs.receive.Tie as tie
 
 returns : tie.Need-returns
 returns c =

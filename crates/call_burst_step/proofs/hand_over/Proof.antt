@@ -1,4 +1,4 @@
--- `call_burst::hand_over` meets its contract. Assumes nothing.
+-- `call_burst_step::hand_over` meets its contract. Assumes nothing.
 use mathlib.Core.Path.{refl, ap}
 use native.Mathlib.Omega.{arith}
 use borrow.Author.Needs.{needs}
@@ -6,9 +6,9 @@ use lib.ListN.{getD, set}
 use Rattle.call_burst_lists.specs.Lists.{Burst}
 use Rattle.call_burst_lists.specs.Times.{lentBy}
 use Rattle.call_burst_lists.proofs.Parts.{taken}
-use Rattle.call_burst.proofs.Parts.{handed-bytes, handed-number}
-use Rattle.call_burst.proofs.hand_over.Statement.{statement}
-use Rattle.call_burst.proofs.hand_over.Tie as tie
+use Rattle.call_burst_step.proofs.Parts.{handed-bytes, handed-number}
+use Rattle.call_burst_step.proofs.hand_over.Statement.{statement}
+use Rattle.call_burst_step.proofs.hand_over.Tie as tie
 
 slice-write-numbers : tie.Need-slice-write-numbers
 slice-write-numbers c =

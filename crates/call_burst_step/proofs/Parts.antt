@@ -18,10 +18,10 @@ use Rattle.call_datagram.specs.Received.{received}
 use Rattle.call_datagram.proofs.Answered.{answer-number}
 use Rattle.call_low.specs.Got.{bytesLow, receivedLow}
 use Rattle.call_low.proofs.Front.{low-number}
-use Rattle.call_burst.specs.declared.Time.{Time}
-use Rattle.call_burst.specs.declared.Time.the-variants.{Full, Reading}
-use Rattle.call_burst.specs.Burst.{callAt}
-use Rattle.call_burst.specs.Steps.{answerBy, bytesBy, timeAt, isReading, numberIn}
+use Rattle.call_burst_step.specs.declared.Time.{Time}
+use Rattle.call_burst_step.specs.declared.Time.the-variants.{Full, Reading}
+use Rattle.call_burst_step.specs.Datagram.{callAt}
+use Rattle.call_burst_step.specs.Steps.{answerBy, bytesBy, timeAt, isReading, numberIn}
 
 -- ---- the milliseconds of datagram i
 
