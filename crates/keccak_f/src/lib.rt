@@ -1,10 +1,12 @@
 // The permutation Keccak-f[1600].
 // A state is 25 lanes of 64 bits; lane (x, y) stands at x + 5 * y.
 ghost use mathlib.Core.Path.{_≡_};
+ghost use Rattle.keccak_complement.specs.Complement.{complement};
 ghost use Rattle.keccak_f.specs.Constants.{publishedConstants};
 ghost use Rattle.keccak_steps.specs.Permutation.{round, keccakF};
+use keccak_complement::chi_complemented;
+use keccak_complement::complemented;
 use keccak_rho::rho;
-use keccak_steps::chi;
 use keccak_steps::iota;
 use keccak_steps::pi;
 use keccak_steps::theta;
@@ -44,24 +46,26 @@ fn round_constants() -> [u64; 24]
     ROUND_CONSTANTS
 }
 
-fn round(a: [u64; 25], c: u64) -> [u64; 25]
-    ensures { λ r. ⌜ r ≡ round c a ⌝ }
+// Two rounds of a complemented state. Each step is called here, and no round has a function of its own: so the compiler inlines all of them.
+fn two_rounds(a: [u64; 25], c: u64, d: u64) -> [u64; 25]
+    ensures { λ r. ⌜ r ≡ complement (round d (round c (complement a))) ⌝ }
 {
-    iota(chi(pi(rho(theta(a)))), c)
+    let b = iota(chi_complemented(pi(rho(theta(a)))), c);
+    iota(chi_complemented(pi(rho(theta(b)))), d)
 }
 
-// The permutation Keccak-f[1600]: 24 rounds.
+// The permutation Keccak-f[1600]: 24 rounds, two a turn, between which six lanes are kept inverted.
 pub fn permute(a: [u64; 25]) -> [u64; 25]
     ensures { λ r. ⌜ r ≡ keccakF a ⌝ }
 {
     // copied once, so that a round reads its constant from memory that is already filled
     let constants = round_constants();
-    let mut s = a;
+    let mut s = complemented(a);
     let mut i: usize = 0;
     while i < 24 {
-        let next = round(s, constants[i]);
+        let next = two_rounds(s, constants[i], constants[i + 1]);
         s = next;
-        i += 1;
+        i += 2;
     }
-    s
+    complemented(s)
 }

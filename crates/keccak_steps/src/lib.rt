@@ -1,4 +1,5 @@
-// The steps of the permutation Keccak-f[1600] that have no table: theta, pi, chi and iota. `specs/` has the whole permutation, as it is published.
+// The steps of the permutation Keccak-f[1600] that have no table and invert nothing: theta, pi and iota. `specs/` has the whole permutation, as it
+// is published.
 // A state is 25 lanes of 64 bits; lane (x, y) stands at x + 5 * y. The steps are straight-line code on arrays by value, which the compiler
 // inlines and keeps in registers.
 ghost use mathlib.Core.Path.{_≡_};
@@ -100,63 +101,6 @@ pub fn pi(a: [u64; 25]) -> [u64; 25]
         a[14],
         a[15],
         a[21],
-    ]
-}
-
-pub fn chi(a: [u64; 25]) -> [u64; 25]
-    ensures { λ r. ⌜ r ≡ spec.chi a ⌝ }
-{
-    let a0 = a[0];
-    let a1 = a[1];
-    let a2 = a[2];
-    let a3 = a[3];
-    let a4 = a[4];
-    let a5 = a[5];
-    let a6 = a[6];
-    let a7 = a[7];
-    let a8 = a[8];
-    let a9 = a[9];
-    let a10 = a[10];
-    let a11 = a[11];
-    let a12 = a[12];
-    let a13 = a[13];
-    let a14 = a[14];
-    let a15 = a[15];
-    let a16 = a[16];
-    let a17 = a[17];
-    let a18 = a[18];
-    let a19 = a[19];
-    let a20 = a[20];
-    let a21 = a[21];
-    let a22 = a[22];
-    let a23 = a[23];
-    let a24 = a[24];
-    [
-        a0 ^ (!a1 & a2),
-        a1 ^ (!a2 & a3),
-        a2 ^ (!a3 & a4),
-        a3 ^ (!a4 & a0),
-        a4 ^ (!a0 & a1),
-        a5 ^ (!a6 & a7),
-        a6 ^ (!a7 & a8),
-        a7 ^ (!a8 & a9),
-        a8 ^ (!a9 & a5),
-        a9 ^ (!a5 & a6),
-        a10 ^ (!a11 & a12),
-        a11 ^ (!a12 & a13),
-        a12 ^ (!a13 & a14),
-        a13 ^ (!a14 & a10),
-        a14 ^ (!a10 & a11),
-        a15 ^ (!a16 & a17),
-        a16 ^ (!a17 & a18),
-        a17 ^ (!a18 & a19),
-        a18 ^ (!a19 & a15),
-        a19 ^ (!a15 & a16),
-        a20 ^ (!a21 & a22),
-        a21 ^ (!a22 & a23),
-        a22 ^ (!a23 & a24),
-        a23 ^ (!a24 & a20),
-        a24 ^ (!a20 & a21),
     ]
 }
 
