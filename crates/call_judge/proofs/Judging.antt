@@ -25,10 +25,12 @@ use Rattle.call_model.specs.Reading.{faultOf, packetReading, parsedReading, rea
 use Rattle.call_model.specs.Calls.{envOf, unsoundFor}
 use Rattle.table.specs.declared.Touched.the-variants.{NotKept, Slot}
 use Rattle.table.specs.Steps.{pick, touchedBy}
-use Rattle.call_touched.specs.Steps.{isWrongKey, isOwnKey}
+use Rattle.call_touched.specs.declared.Reach.{Reach}
+use Rattle.call_touched.specs.Steps.{reached, isWrongKey, isOwnKey}
 use Rattle.call_touched.proofs.Touch.{leads, is-touched}
+use Rattle.call_judge.specs.declared.Judged.{Judged}
 use Rattle.call_judge.specs.declared.Judged.the-variants.{Refused}
-use Rattle.call_judge.specs.Steps.{judgedBy, afterReading, judgedAt, passedTo, judged}
+use Rattle.call_judge.specs.Steps.{judgedBy, afterReading, judgedAt, judgedOn, passedTo, judged}
 
 -- ---- the tests of what a datagram reads as
 
@@ -143,14 +145,22 @@ same-judged g false true true whole own kept form unix i =
 -- ---- with 1
 
 module _ (s : Bytes) (now : ℕ) (unix : UnixSeconds) (address key g : Bytes) where
-  pub judge-unsound : unsoundFor reading s key ≡ true → Refused 1 ≡ judged s now unix address key g
+  judge-unsound : unsoundFor reading s key ≡ true → Refused 1 ≡ judged s now unix address key g
   unfolding judged
   judge-unsound u = sym (rw u refl)
 
-  pub judge-sound : unsoundFor reading s key ≡ false → judgedAt (clockOf s) now unix g (touchedBy s key) address ≡ judged s now unix address key g
+  judge-sound : unsoundFor reading s key ≡ false → judgedAt (clockOf s) now unix g (touchedBy s key) address ≡ judged s now unix address key g
   unfolding judged reading
   judge-sound u =
       sym
       (rw (u, is-touched s key)
       (same-judged g (ltb now (clockOf s)) (isSized g) (hashMatches g) (eqb (length key) 64) (isOwn (envOf reading s) key) (isKept (envOf reading s) key)
       (isAddress address) unix (slot (envOf reading s) key)))
+
+  -- by where the key leads
+  judge-reached : judgedOn (clockOf s) now unix g (reached s key) address ≡ judged s now unix address key g
+  unfolding reached
+  judge-reached = byTest (unsoundFor reading s key) (λ u. rw u (judge-unsound u)) (λ u. rw u (judge-sound u))
+
+  pub judged-at : {reach : Reach} {r : Judged} → reach ≡ reached s key → r ≡ judgedOn (clockOf s) now unix g reach address → r ≡ judged s now unix address key g
+  judged-at e h = h ∙ ap (λ (x : Reach). judgedOn (clockOf s) now unix g x address) e ∙ judge-reached

@@ -18,6 +18,8 @@ use Rattle.call_model.specs.Reading.{reading}
 use Rattle.table.specs.declared.Touched.{Touched}
 use Rattle.call_touched.specs.declared.Placed.{Placed}
 use Rattle.call_touched.specs.declared.Placed.the-variants.{NotPlaced, In}
+use Rattle.call_touched.specs.declared.Reach.{Reach}
+use Rattle.call_touched.specs.declared.Reach.the-variants.{Unsound, At}
 use Rattle.call_touched.specs.Steps.{keyTests, keptPlace}
 use Rattle.packet.specs.declared.Parsed.the-variants as parsed
 use Rattle.call_judge.specs.declared.Judged.{Judged}
@@ -45,6 +47,11 @@ judgedBy n j = cond (eqb n 0) j (Refused n)
 
 abbrev pub judgedAt : ℕ → ℕ → UnixSeconds → Bytes → Touched → Bytes → Judged
 judgedAt clock now unix g t address = judgedBy (first (datagramTests clock now g t address)) (afterReading t (readAt g unix))
+
+-- 1 to 12, by where the key leads
+abbrev pub judgedOn : ℕ → ℕ → UnixSeconds → Bytes → Reach → Bytes → Judged
+judgedOn clock now unix g Unsound address = Refused 1
+judgedOn clock now unix g (At t) address = judgedAt clock now unix g t address
 
 -- 1 to 12, in document 01's order: the first lines of its table of answer numbers
 abbrev pub datagramFront : Bytes → ℕ → Bytes → Bytes → Reading → List (Bool × ℕ)

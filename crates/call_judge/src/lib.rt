@@ -4,7 +4,8 @@ ghost use Prim.Native.Nat.{_≤_};
 ghost use lib.ListN.{length};
 ghost use Rattle.lists.specs.Lists.{first};
 ghost use Rattle.table_model.specs.Layout.{clockOf};
-ghost use Rattle.call_judge.specs.Steps.{judgedAt, judged, datagramTests, keptSlot, afterReading};
+ghost use Rattle.call_touched.specs.Steps.{HasHeader};
+ghost use Rattle.call_judge.specs.Steps.{judgedAt, judgedOn, datagramTests, keptSlot, afterReading};
 use call_touched::Placed;
 use call_touched::Reach;
 use node::MonotonicMillis;
@@ -84,19 +85,19 @@ fn judge_at(
     after_reading(touched, packet_datagram::read(datagram, unix))
 }
 
-// Answers 1 to 12 of a datagram, or what the sender's bucket is to get.
+// Answers 1 to 12 of a datagram whose signer's key leads to `reach`, or what the sender's bucket is to get.
 pub fn judge(
     table: &[u8],
+    reach: Reach,
     clock: MonotonicMillis,
     unix: UnixSeconds,
     address: &[u8],
-    signer: &[u8],
     datagram: &[u8],
 ) -> Judged
-    ensures { λ r. ⌜ r ≡ judged (now (table .entry)) (clock .0) unix (now (address .entry)) (now (signer .entry)) (now (datagram .entry)) ⌝ }
+    requires { ⌜ HasHeader (now table) reach ⌝ }
+    ensures { λ r. ⌜ r ≡ judgedOn (clockOf (now (table .entry))) (clock .0) unix (now (datagram .entry)) reach (now (address .entry)) ⌝ }
 {
-    let reached = call_touched::reached_by(table, signer);
-    match reached {
+    match reach {
         Reach::Unsound => Judged::Refused(numbers::UNSOUND),
         Reach::At(touched) => judge_at(table, clock, unix, datagram, touched, address),
     }

@@ -4,3 +4,4 @@ pub mod Demand3
 pub mod Numbers
 pub mod AnyBytes
 pub mod Wrong
+pub mod IfAny

@@ -3,3 +3,4 @@ pub mod Calls
 pub mod OverBytes
 pub mod AnyBytes
 pub mod Claims
+pub mod IfAny

@@ -18,10 +18,12 @@ use Rattle.call_history.specs.Model.{Call, pingSent, isOwn, isKept, slot, pingS
 use Rattle.call_model.specs.Calls.{envOf, bucketFor, unsoundFor, answerOn, bytesAfter}
 use Rattle.call_model.specs.Reading.{reading}
 use Rattle.table.specs.Steps.{touchedBy}
-use Rattle.call_touched.specs.Steps.{SoundAt}
+use Rattle.call_touched.specs.declared.Reach.{Reach}
+use Rattle.call_touched.specs.Steps.{reached, SoundAt}
 use Rattle.call_touched.proofs.Touch.{is-touched, sound-at}
+use Rattle.call_touched.specs.declared.Placed.{Placed}
 use Rattle.call_touched.specs.declared.Placed.the-variants.{NotPlaced, In}
-use Rattle.call_ping_sent.specs.Steps.{placedBy, placedAt, pingSentFront, placed, noteNumber, afterNote}
+use Rattle.call_ping_sent.specs.Steps.{placedBy, placedAt, placedOn, pingSentFront, placed, noteNumber, afterNote}
 use Rattle.call_ping_sent.proofs.Placing.{same-placed}
 
 -- ---- what was placed, by its number
@@ -45,17 +47,25 @@ short address h =
     (λ t. omega (arith, eqb-true (length address) 16 (rw t at h)))
 
 module _ (s : Bytes) (now : ℕ) (key address hash : Bytes) where
-  pub place-unsound : unsoundFor reading s key ≡ true → NotPlaced 1 ≡ placed s now key address hash
+  place-unsound : unsoundFor reading s key ≡ true → NotPlaced 1 ≡ placed s now key address hash
   unfolding placed
   place-unsound u = sym (rw u refl)
 
-  pub place-sound : unsoundFor reading s key ≡ false → placedAt (clockOf s) now hash (touchedBy s key) address ≡ placed s now key address hash
+  place-sound : unsoundFor reading s key ≡ false → placedAt (clockOf s) now hash (touchedBy s key) address ≡ placed s now key address hash
   unfolding placed
   place-sound u =
       sym
       (rw (u, is-touched s key)
       (same-placed (ltb now (clockOf s)) (eqb (length hash) 32) (eqb (length key) 64) (isOwn (envOf reading s) key) (isKept (envOf reading s) key)
       (isAddress address) (slot (envOf reading s) key)))
+
+  -- by where the key leads
+  place-reached : placedOn (clockOf s) now hash (reached s key) address ≡ placed s now key address hash
+  unfolding reached
+  place-reached = byTest (unsoundFor reading s key) (λ u. rw u (place-unsound u)) (λ u. rw u (place-sound u))
+
+  pub placed-at : {reach : Reach} {p : Placed} → reach ≡ reached s key → p ≡ placedOn (clockOf s) now hash reach address → p ≡ placed s now key address hash
+  placed-at e h = h ∙ ap (λ (x : Reach). placedOn (clockOf s) now hash x address) e ∙ place-reached
 
   module _ (udp tcp : ℕ) where
     abbrev call : Call

@@ -14,6 +14,8 @@ use Rattle.call_model.specs.Calls.{envOf, unsoundFor}
 use Rattle.call_model.specs.Reading.{reading}
 use Rattle.table.specs.declared.Touched.{Touched}
 use Rattle.call_touched.specs.Steps.{keyTests, keptPlace, withBucket}
+use Rattle.call_touched.specs.declared.Reach.{Reach}
+use Rattle.call_touched.specs.declared.Reach.the-variants.{Unsound, At}
 use Rattle.call_touched.specs.declared.Placed.{Placed}
 use Rattle.call_touched.specs.declared.Placed.the-variants.{NotPlaced, In}
 
@@ -30,6 +32,11 @@ placedBy n p = cond (eqb n 0) p (NotPlaced n)
 
 abbrev pub placedAt : ℕ → ℕ → Bytes → Touched → Bytes → Placed
 placedAt clock now hash t address = placedBy (first (pingSentTests clock now hash t address)) (keptPlace t)
+
+-- 1 to 12, by where the key leads
+abbrev pub placedOn : ℕ → ℕ → Bytes → Reach → Bytes → Placed
+placedOn clock now hash Unsound address = NotPlaced 1
+placedOn clock now hash (At t) address = placedAt clock now hash t address
 
 unfoldable pub placed : Bytes → ℕ → Bytes → Bytes → Bytes → Placed
 placed s now key address hash = placedBy (first (pingSentFront s now key address hash)) (In (slot (envOf reading s) key))

@@ -1,5 +1,6 @@
 // The ping-sent call on a table in lent bytes, for any bytes.
 ghost use mathlib.Core.Path.{_≡_};
+ghost use mathlib.Core.Bool.{true};
 ghost use Prim.Native.Nat.{_≤_};
 ghost use lib.ListN.{length};
 ghost use Rattle.octets.specs.Octets.{Bytes};
@@ -9,10 +10,11 @@ ghost use Rattle.bucket.specs.Steps.{contents, InBounds};
 ghost use Rattle.bucket_lookup.specs.Steps.{LooksUp};
 ghost use Rattle.call_history.specs.Model as model;
 ghost use Rattle.call_model.specs.Calls.{answerOn, bytesAfter};
+ghost use Rattle.call_model.specs.IfAny.{soundIfAny};
 ghost use Rattle.call_model.specs.Reading.{reading};
-ghost use Rattle.call_touched.specs.Steps.{SoundAt};
+ghost use Rattle.call_touched.specs.Steps.{reached, HasHeader, SoundAt};
 ghost use Rattle.call_history.specs.Model.{heldRefusals};
-ghost use Rattle.call_ping_sent.specs.Steps.{placedAt, placed, pingSentTests, noteNumber, afterNote};
+ghost use Rattle.call_ping_sent.specs.Steps.{placedAt, placedOn, pingSentTests, noteNumber, afterNote};
 use bucket::Bucket;
 use bucket_lookup::Lookup;
 use call_touched::Placed;
@@ -59,12 +61,12 @@ fn place_at(
     call_touched::kept_place(touched)
 }
 
-// Answers 1 to 12 of a ping that was sent, or the slot of the node's bucket.
-fn place(table: &[u8], clock: MonotonicMillis, key: &[u8], address: &[u8], hash: &[u8]) -> Placed
-    ensures { λ r. ⌜ r ≡ placed (now (table .entry)) (clock .0) (now (key .entry)) (now (address .entry)) (now (hash .entry)) ⌝ }
+// Answers 1 to 12 of a ping that was sent to the node whose key leads to `reach`, or the slot of its bucket.
+fn place(table: &[u8], reach: Reach, clock: MonotonicMillis, address: &[u8], hash: &[u8]) -> Placed
+    requires { ⌜ HasHeader (now table) reach ⌝ }
+    ensures { λ r. ⌜ r ≡ placedOn (clockOf (now (table .entry))) (clock .0) (now (hash .entry)) reach (now (address .entry)) ⌝ }
 {
-    let reached = call_touched::reached_by(table, key);
-    match reached {
+    match reach {
         Reach::Unsound => Placed::NotPlaced(numbers::UNSOUND),
         Reach::At(touched) => place_at(table, clock, hash, touched, address),
     }
@@ -114,6 +116,27 @@ fn note(
     numbers::DONE
 }
 
+// A ping went out to the node whose key leads to `reach`.
+fn ping_sent_at(
+    table: &mut [u8],
+    reach: Reach,
+    clock: MonotonicMillis,
+    key: &[u8],
+    address: &[u8],
+    udp: u16,
+    tcp: u16,
+    hash: &[u8],
+) -> u8
+    requires { ⌜ reach ≡ reached (now table) (now key) ⌝ }
+    ensures { λ r. ⌜ r ≡ answerOn reading (now (table .entry)) (model.pingSent (clock .0) (now (key .entry)) (now (address .entry)) udp tcp (now (hash .entry))) ⌝ }
+    ensures { λ r. ⌜ now (table .exit) ≡ bytesAfter reading (now (table .entry)) (model.pingSent (clock .0) (now (key .entry)) (now (address .entry)) udp tcp (now (hash .entry))) ⌝ }
+{
+    match place(table, reach, clock, address, hash) {
+        Placed::NotPlaced(n) => n,
+        Placed::In(slot) => note(table, slot, clock, key, address, udp, tcp, hash),
+    }
+}
+
 // A ping with this hash went out to a node. The answer number.
 pub fn ping_sent_on(
     table: &mut [u8],
@@ -127,8 +150,24 @@ pub fn ping_sent_on(
     ensures { λ r. ⌜ r ≡ answerOn reading (now (table .entry)) (model.pingSent (clock .0) (now (key .entry)) (now (address .entry)) udp tcp (now (hash .entry))) ⌝ }
     ensures { λ r. ⌜ now (table .exit) ≡ bytesAfter reading (now (table .entry)) (model.pingSent (clock .0) (now (key .entry)) (now (address .entry)) udp tcp (now (hash .entry))) ⌝ }
 {
-    match place(table, clock, key, address, hash) {
-        Placed::NotPlaced(n) => n,
-        Placed::In(slot) => note(table, slot, clock, key, address, udp, tcp, hash),
-    }
+    let reach = call_touched::reached_by(table, key);
+    ping_sent_at(table, reach, clock, key, address, udp, tcp, hash)
+}
+
+// The same on no bytes or on a sound table, where nothing is left to test.
+pub fn ping_sent_on_sound(
+    table: &mut [u8],
+    clock: MonotonicMillis,
+    key: &[u8],
+    address: &[u8],
+    udp: u16,
+    tcp: u16,
+    hash: &[u8],
+) -> u8
+    requires { ⌜ soundIfAny (now table) ≡ true ⌝ }
+    ensures { λ r. ⌜ r ≡ answerOn reading (now (table .entry)) (model.pingSent (clock .0) (now (key .entry)) (now (address .entry)) udp tcp (now (hash .entry))) ⌝ }
+    ensures { λ r. ⌜ now (table .exit) ≡ bytesAfter reading (now (table .entry)) (model.pingSent (clock .0) (now (key .entry)) (now (address .entry)) udp tcp (now (hash .entry))) ⌝ }
+{
+    let reach = call_touched::reached_in(table, key);
+    ping_sent_at(table, reach, clock, key, address, udp, tcp, hash)
 }

@@ -16,6 +16,9 @@ use Rattle.table_model.specs.Layout.{encodeTable, ownOf, clockOf, bucketsOf}
 use Rattle.table_model.specs.Sound.{tableSound}
 use Rattle.table_model.proofs.Table.{store-clock-table}
 use Rattle.table_model.proofs.Sound.{SoundTable, table-header, form-is-sound, own-back, clock-back, buckets-back}
+use Rattle.call_history.specs.Model.{sweep}
+use Rattle.call_model.specs.Reading.{reading}
+use Rattle.call_model.specs.Calls.{answerOn, bytesAfter}
 use Rattle.call_sweep.specs.Steps.{sweepAnswer, sweepTable}
 
 -- ---- the answer, and what it leaves
@@ -33,6 +36,12 @@ module _ (s : Bytes) (now : ℕ) where
       → (0 ≡ sweepAnswer s now) × (encodeTable (ownOf s) now (map (onSweep now) (bucketsOf s)) ≡ sweepTable s now)
   unfolding sweepAnswer sweepTable
   sweep-done h k = (simp (h, le-ltb now (clockOf s) k), simp (h, le-ltb now (clockOf s) k))
+
+-- they are those of the rules for any bytes
+pub by-rules : (s : Bytes) (now : ℕ) {n : ℕ} {t : Bytes} → (n ≡ sweepAnswer s now) × (t ≡ sweepTable s now)
+    → (n ≡ answerOn reading s (sweep now)) × (t ≡ bytesAfter reading s (sweep now))
+unfolding sweepAnswer sweepTable answerOn bytesAfter
+by-rules s now h = h
 
 -- the two stores of an accepted sweep
 pub sweep-end : (s : Bytes) (now : ℕ) → tableSound s ≡ true → clockOf s ≤ now → {s₁ s₂ : Bytes}

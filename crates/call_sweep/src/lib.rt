@@ -2,6 +2,7 @@
 ghost use mathlib.Core.Path.{_≡_};
 ghost use Rattle.call_history.specs.Model as model;
 ghost use Rattle.call_model.specs.Calls.{answerOn, bytesAfter};
+ghost use Rattle.call_model.specs.IfAny.{soundIfAny};
 ghost use Rattle.call_model.specs.Reading.{reading};
 ghost use mathlib.Core.Bool.{true};
 ghost use mathlib.Core.List.{map};
@@ -28,6 +29,15 @@ pub fn sweep_on(table: &mut [u8], clock: MonotonicMillis) -> u8
     ensures { λ r. ⌜ now (table .exit) ≡ bytesAfter reading (now (table .entry)) (model.sweep (clock .0)) ⌝ }
 {
     sweep(table, clock)
+}
+
+// The same on no bytes or on a sound table, where nothing is left to test.
+pub fn sweep_on_sound(table: &mut [u8], clock: MonotonicMillis) -> u8
+    requires { ⌜ soundIfAny (now table) ≡ true ⌝ }
+    ensures { λ r. ⌜ r ≡ answerOn reading (now (table .entry)) (model.sweep (clock .0)) ⌝ }
+    ensures { λ r. ⌜ now (table .exit) ≡ bytesAfter reading (now (table .entry)) (model.sweep (clock .0)) ⌝ }
+{
+    sweep_sound(table, clock)
 }
 
 // Whether the entry whose bytes start at index `at` stays in the sweep's removals, a replacement where `waiting`.
@@ -111,6 +121,18 @@ pub fn sweep(table: &mut [u8], time: MonotonicMillis) -> u8
     ensures { λ r. ⌜ now (table .exit) ≡ sweepTable (now (table .entry)) (time .0) ⌝ }
 {
     if !table_sound::sound(table) {
+        return numbers::UNSOUND;
+    }
+    sweep_sound(table, time)
+}
+
+// The same on no bytes or on a sound table.
+fn sweep_sound(table: &mut [u8], time: MonotonicMillis) -> u8
+    requires { ⌜ soundIfAny (now table) ≡ true ⌝ }
+    ensures { λ r. ⌜ r ≡ sweepAnswer (now (table .entry)) (time .0) ⌝ }
+    ensures { λ r. ⌜ now (table .exit) ≡ sweepTable (now (table .entry)) (time .0) ⌝ }
+{
+    if table.len() == 0 {
         return numbers::UNSOUND;
     }
     let clock = table::clock(table);

@@ -7,20 +7,22 @@ use borrow.Author.Tests.{not-false}
 use lib.Dec.{eqb}
 use lib.ListN.{length}
 use Rattle.octets.specs.Octets.{Bytes}
-use Rattle.lists.proofs.Laws.{byTest}
+use Rattle.lists.proofs.Laws.{byTest, and-right}
 use Rattle.table_model.specs.Layout.{countOf, headerSound}
-use Rattle.table_model.specs.Sound.{bucketSound}
+use Rattle.table_model.specs.Sound.{bucketSound, bucketsSound, tableSound}
 use Rattle.table_model.proofs.Header.{header-sound}
+use Rattle.table_model.proofs.Sound.{all-below}
 use Rattle.call_history.specs.Model.{bucketNumber, isOwn, isKept, slot}
 use Rattle.call_model.specs.Calls.{envOf, unsoundFor}
 use Rattle.call_model.specs.Reading.{reading}
 use Rattle.call_model.proofs.Form.{slot-below}
+use Rattle.call_model.proofs.IfAny.{sound-head}
 use Rattle.table.specs.declared.Touched.{Touched}
 use Rattle.table.specs.declared.Touched.the-variants.{WrongKey, Own, NotKept, Slot}
 use Rattle.table.specs.Steps.{pick, touchedBy}
 use Rattle.call_touched.specs.declared.Reach.{Reach}
 use Rattle.call_touched.specs.declared.Reach.the-variants.{Unsound, At}
-use Rattle.call_touched.specs.Steps.{touchedSound, Below, reached, SoundAt}
+use Rattle.call_touched.specs.Steps.{touchedSound, Below, reached, HasHeader, SoundAt}
 
 -- by its tests: the key is 64 bytes, its hash is the own one, its bucket is kept; the slot
 abbrev pub leads : Bool → Bool → Bool → ℕ → Touched
@@ -38,6 +40,14 @@ sound-test s false own kept i = refl
 sound-test s true true kept i = refl
 sound-test s true false true i = refl
 sound-test s true false false i = refl
+
+-- every bucket of a sound table is sound
+sound-touched : (s : Bytes) → tableSound s ≡ true → (t : Touched) → Below (countOf s) t → touchedSound s t ≡ true
+unfolding tableSound bucketsSound
+sound-touched s h WrongKey below = refl
+sound-touched s h Own below = refl
+sound-touched s h NotKept below = refl
+sound-touched s h (Slot i) below = all-below (countOf s) (bucketSound s) (and-right (headerSound s) (bucketsSound s) h) i below
 
 module _ (s key : Bytes) where
   pub is-touched : touchedBy s key ≡ leads (eqb (length key) 64) (isOwn (envOf reading s) key) (isKept (envOf reading s) key) (slot (envOf reading s) key)
@@ -67,6 +77,9 @@ module _ (s key : Bytes) where
     unfolding reached
     reaches-none t = sym (rw (unsound-is ∙ ap not t) refl)
 
+  pub reaches-sound : tableSound s ≡ true → At (touchedBy s key) ≡ reached s key
+  reaches-sound t = reaches (sound-head s t) (sound-touched s t (touchedBy s key) (is-below (sound-head s t)))
+
   -- what was reached says whether 1 applies
   module _ {r : Reach} (e : r ≡ reached s key) where
     abbrev test : Bool
@@ -89,6 +102,13 @@ module _ (s key : Bytes) where
 
   pub header-there : unsoundFor reading s key ≡ false → headerSound s ≡ true
   header-there g = byTest (headerSound s) (λ t. t) (λ t. let no : true ≡ false = rw t at g in absurd (let z : _≡_ {A = ℕ} 0 1 = cc in omega arith))
+
+  pub reached-header : HasHeader s (reached s key)
+  unfolding reached
+  reached-header =
+      byTest (unsoundFor reading s key)
+      (λ g. rw g tt)
+      (λ g. let h = header-sound s (header-there g) in rw g (omega (arith, h .size)))
 
   -- where 1 does not apply, a bucket that is touched is sound
   pub sound-at : unsoundFor reading s key ≡ false → eqb (length key) 64 ≡ true → isOwn (envOf reading s) key ≡ false → isKept (envOf reading s) key ≡ true

@@ -1,8 +1,9 @@
 -- Where a key leads in a table's bytes, and the bucket there.
-use Prim.Native.Nat.{ℕ, _<_}
+use Prim.Native.Nat.{ℕ, _≤_, _<_}
 use mathlib.Core.Path.{_≡_}
 use mathlib.Core.Bool.{Bool, true, false, cond, not}
 use mathlib.Core.List.{List, [], _∷_}
+use lib.ListN.{length}
 use Rattle.node.specs.Nodes.{isAddress}
 use Rattle.octets.specs.Octets.{Bytes, store, bigEndian}
 use Rattle.bucket_model.specs.Contents.{Contents, encodeBucket}
@@ -35,6 +36,11 @@ Below count (Slot i) = i < count
 -- unless 1 applies, the bucket that a key touches
 unfoldable pub reached : Bytes → Bytes → Reach
 reached s key = cond (unsoundFor reading s key) Unsound (At (touchedBy s key))
+
+-- a key leads to a bucket only past a header
+abbrev pub HasHeader : Bytes → Reach → Type 0
+HasHeader s Unsound = Unit {0}
+HasHeader s (At t) = 512 ≤ length s
 
 -- ---- tests of the bucket that a key touches
 

@@ -6,6 +6,7 @@ ghost use Prim.Native.Nat.{_+_, _≤_};
 ghost use lib.ListN.{length};
 ghost use Rattle.lists.specs.Lists.{first};
 ghost use Rattle.table_model.specs.Layout.{countOf, offsetOf, bucketAt, headerSound};
+ghost use Rattle.call_model.specs.IfAny.{soundIfAny};
 ghost use Rattle.bucket.specs.Steps.{contents, Shows, InBounds};
 ghost use Rattle.bucket_lookup.specs.Steps.{Ready};
 ghost use Rattle.call_touched.specs.Steps.{touchedSound, Below, reached, isWrongKey, isOwnKey, keyTests, keptPlace, SoundAt, withBucket};
@@ -44,6 +45,17 @@ pub fn reached_by(table: &[u8], key: &[u8]) -> Reach
         return Reach::At(touched);
     }
     Reach::Unsound
+}
+
+// The same in no bytes or in a sound table, where nothing is left to test.
+pub fn reached_in(table: &[u8], key: &[u8]) -> Reach
+    requires { ⌜ soundIfAny (now table) ≡ true ⌝ }
+    ensures { λ r. ⌜ r ≡ reached (now (table .entry)) (now (key .entry)) ⌝ }
+{
+    if table.len() == 0 {
+        return Reach::Unsound;
+    }
+    Reach::At(table::touched_by(table, key))
 }
 
 fn is_wrong_key(touched: Touched) -> bool

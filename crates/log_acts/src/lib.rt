@@ -5,9 +5,12 @@ ghost use Prim.Native.Nat.{_+_, _≤_};
 ghost use lib.ListN.{length};
 ghost use Rattle.call_history.specs.Model as model;
 ghost use Rattle.call_model.specs.Calls.{answerOn, bytesAfter};
+ghost use Rattle.call_model.specs.IfAny.{soundIfAny};
 ghost use Rattle.call_model.specs.Reading.{reading};
 ghost use Rattle.log_line.specs.Fields.{said};
 ghost use Rattle.log_lines.specs.Lines.{whole};
+ghost use Rattle.log_state.specs.State.{stateOf};
+ghost use Rattle.log_replay.specs.Replay.{Reached};
 ghost use Rattle.log_acts.specs.Acts.{isPongOutcome, idle, heardActs, pingedActs, sweptActs, actsBy};
 ghost use Rattle.log_acts.specs.ActedLine.{ActedLine};
 use bucket_entry::both;
@@ -105,11 +108,12 @@ fn hear(
     signer: &[u8],
     datagram: &[u8],
 ) -> Acted
+    requires { ⌜ soundIfAny (now table) ≡ true ⌝ }
     ensures acted { λ r. ⌜ r ≡ actsBy (now (key .entry)) place (answerOn reading (now (table .entry)) (model.datagram clock unix (now (address .entry)) port (now (signer .entry)) (now (datagram .entry)))) (model.datagram clock unix (now (address .entry)) port (now (signer .entry)) (now (datagram .entry))) ⌝ }
     ensures bytes { λ _. ⌜ now (table .exit) ≡ bytesAfter reading (now (table .entry)) (model.datagram clock unix (now (address .entry)) port (now (signer .entry)) (now (datagram .entry))) ⌝ }
 {
     let time = MonotonicMillis(clock);
-    let received = call_datagram::datagram_on(
+    let received = call_datagram::datagram_on_sound(
         table,
         time,
         UnixSeconds(unix),
@@ -138,6 +142,7 @@ fn rx(
     datagram: Span,
 ) -> Acted
     requires { ⌜ (length (now line) ≤ 3000) × ((address .start + address .len ≤ length (now line)) × ((signer .start + signer .len ≤ length (now line)) × (datagram .start + datagram .len ≤ length (now line)))) ⌝ }
+    requires { ⌜ soundIfAny (now table) ≡ true ⌝ }
     ensures acted { λ r. ⌜ r ≡ actsBy (now (key .entry)) place (answerOn reading (now (table .entry)) (model.datagram clock unix (said (now (line .entry)) address) port (said (now (line .entry)) signer) (said (now (line .entry)) datagram))) (model.datagram clock unix (said (now (line .entry)) address) port (said (now (line .entry)) signer) (said (now (line .entry)) datagram)) ⌝ }
     ensures bytes { λ _. ⌜ now (table .exit) ≡ bytesAfter reading (now (table .entry)) (model.datagram clock unix (said (now (line .entry)) address) port (said (now (line .entry)) signer) (said (now (line .entry)) datagram)) ⌝ }
 {
@@ -187,6 +192,7 @@ fn sent(
     hash: Span,
 ) -> Acted
     requires { ⌜ (length (now line) ≤ 3000) × ((target .start + target .len ≤ length (now line)) × ((address .start + address .len ≤ length (now line)) × (hash .start + hash .len ≤ length (now line)))) ⌝ }
+    requires { ⌜ soundIfAny (now table) ≡ true ⌝ }
     ensures acted { λ r. ⌜ ((place : Lookup) → r ≡ actsBy (now (key .entry)) place (answerOn reading (now (table .entry)) (model.pingSent clock (said (now (line .entry)) target) (said (now (line .entry)) address) udp tcp (said (now (line .entry)) hash))) (model.pingSent clock (said (now (line .entry)) target) (said (now (line .entry)) address) udp tcp (said (now (line .entry)) hash))) ⌝ }
     ensures bytes { λ _. ⌜ now (table .exit) ≡ bytesAfter reading (now (table .entry)) (model.pingSent clock (said (now (line .entry)) target) (said (now (line .entry)) address) udp tcp (said (now (line .entry)) hash)) ⌝ }
 {
@@ -196,7 +202,7 @@ fn sent(
     let a = decode_field(line, address, &mut to);
     let mut bytes = [0u8; 1500];
     let n = decode_field(line, hash, &mut bytes);
-    let number = call_ping_sent::ping_sent_on(
+    let number = call_ping_sent::ping_sent_on_sound(
         table,
         MonotonicMillis(clock),
         &node[0..k],
@@ -213,11 +219,12 @@ fn sent(
 
 // `sweep`: milliseconds.
 fn sweep(table: &mut [u8], place: Lookup, clock: u64) -> Acted
+    requires { ⌜ soundIfAny (now table) ≡ true ⌝ }
     ensures acted { λ r. ⌜ r ≡ sweptActs place (answerOn reading (now (table .entry)) (model.sweep clock)) clock ⌝ }
     ensures bytes { λ _. ⌜ now (table .exit) ≡ bytesAfter reading (now (table .entry)) (model.sweep clock) ⌝ }
 {
     let time = MonotonicMillis(clock);
-    let number = call_sweep::sweep_on(table, time);
+    let number = call_sweep::sweep_on_sound(table, time);
     Acted {
         number,
         named: false,
@@ -234,9 +241,9 @@ pub struct Taken {
     pub acted: Acted,
 }
 
-// Takes a line, without its 0A, as a replay does.
+// Takes a line, without its 0A, as a replay does; its call tests no table either.
 pub fn act(memory: &mut [u8], key: &[u8], replay: Replay, place: Lookup, line: &[u8]) -> Taken
-    requires { ⌜ (46304 ≤ length (now memory)) × (replay .count ≤ 16) ⌝ }
+    requires { ⌜ (46304 ≤ length (now memory)) × ((replay .count ≤ 16) × Reached (stateOf replay (now memory))) ⌝ }
     ensures { λ r. ⌜ ActedLine (now (key .entry)) replay place (whole (now (line .entry))) (now (memory .entry)) r (now (memory .exit)) ⌝ }
 {
     let size = replay.size();

@@ -1,12 +1,12 @@
 -- After any lines the table is none, or a sound one that the rules led to. Assumes nothing.
-use Prim.Native.Nat.{ℕ, _+_, _*_, _≤_}
+use Prim.Native.Nat.{ℕ, _+_, _-_, _*_, _≤_}
 use mathlib.Core.Path.{_≡_, refl, sym, ap, _∙_}
 use mathlib.Core.Bool.{Bool, true}
 use mathlib.Core.List.{[]}
 use native.Mathlib.Omega.{arith}
 use borrow.Author.Tests.{eqb-true}
 use lib.Dec.{eqb}
-use lib.ListN.{length, take}
+use lib.ListN.{length, take, drop}
 use lib.Seq.{length-take-le}
 use Rattle.octets.specs.Octets.{Bytes, Slice}
 use Rattle.lists.proofs.Laws.{byTest}
@@ -33,14 +33,16 @@ use Rattle.call_history.specs.Chain.{IsCall}
 use Rattle.call_history.proofs.Step.{keccak-lawful}
 use Rattle.call_history.proofs.Sound.{TableSound, IsTable, fresh-sound, fresh-values, next-sound, next-values}
 use Rattle.call_model.specs.Calls.{bytesAfter}
+use Rattle.call_model.specs.IfAny.{soundIfAny}
 use Rattle.call_model.specs.Reading.{reading}
 use Rattle.call_model.specs.OverBytes.{encode}
 use Rattle.call_model.proofs.Form.{table-form}
+use Rattle.call_model.proofs.IfAny.{sound-any}
 use Rattle.call_model.proofs.Step.{step-follows}
 use Rattle.log_state.specs.declared.Replay.{Replay}
 use Rattle.log_state.specs.State.{State, sizeOf, stateOf}
 use Rattle.log_own.specs.OwnLine.{ownNumber, ownAnswer, ownAfter}
-use Rattle.log_state.proofs.Memory.{size-some, size-fits}
+use Rattle.log_state.proofs.Memory.{size-some, size-fits, front-part}
 use Rattle.log_own.proofs.OwnLine.{accepted-count}
 use Rattle.log_replay.specs.Replay.{lineAfter, after, Reached, start, line as reached-line}
 use Rattle.log_replay.proofs.Fields.{isRead, read-short}
@@ -145,7 +147,7 @@ pub reached-good : {st : State} → Reached st → Good st
 reached-good start = none refl
 reached-good (reached-line {st = st} r l) = good-after st (reached-good r) l
 
--- ---- what a program can print
+-- ---- what the next line's call, and the printout, find
 
 pub follows-sound : (s : Bytes) → Follows s → (tableSound s ≡ true) × ((countOf s ≤ 16) × (length s ≡ offsetOf (countOf s)))
 follows-sound s f =
@@ -159,6 +161,16 @@ follows-sound s f =
         ap length (f .form) ∙ length-table own (t .clock) (t .buckets) (form .own-size) (sized-table own (t .clock) (t .buckets) form) ∙ ap offsetOf (sym count),
       ),
     )
+
+good-any : (st : State) → Good st → soundIfAny (st .table) ≡ true
+good-any st (none e) = ap soundIfAny e
+good-any st (some f) = sound-any (st .table) (follows-sound (st .table) f .0)
+
+-- the part of the memory that the next line's call gets
+pub lent-sound : (replay : Replay) (memory : Bytes) (z : ℕ) → z ≡ sizeOf (replay .count) → Reached (stateOf replay memory)
+    → soundIfAny (take (z - 0) (drop 0 memory)) ≡ true
+lent-sound replay memory z e r =
+    ap soundIfAny (front-part memory z ∙ ap (λ (k : ℕ). take k memory) e) ∙ good-any (stateOf replay memory) (reached-good r)
 
 -- where an `own` was accepted, the table is sound, and the replay has its count
 pub good-table : (replay : Replay) (memory : Bytes) → 46304 ≤ length memory → replay .count ≤ 16 → (replay .count ≡ 0 → ⊥) → Good (stateOf replay memory)

@@ -4,39 +4,29 @@ use mathlib.Core.Path.{_≡_, refl, sym, ap, _∙_}
 use mathlib.Core.Bool.{Bool, true, false}
 use mathlib.Core.List.{[]}
 use native.Mathlib.Omega.{arith}
-use Rattle.octets.specs.Octets.{Bytes, part, numberFrom}
+use Rattle.octets.specs.Octets.{Bytes}
 use Rattle.lists.proofs.Laws.{never}
 use Rattle.log_line.specs.declared.Line.{Line}
 use Rattle.log_line.specs.declared.Line.the-variants.{Own, Rx, Sent, Sweep, Unreadable}
 use Rattle.log_line.specs.Fields.{said}
 use Rattle.log_line.specs.Forms.{lineOf}
-use Rattle.table_model.specs.Layout.{headerSound}
-use Rattle.table_model.specs.Sound.{tableSound}
 use Rattle.call_history.specs.Model.{Call, datagram, pingSent, sweep, closest, unclocked}
 use Rattle.call_model.specs.Calls.{answerOn, bytesAfter}
 use Rattle.call_model.specs.Reading.{reading}
 use Rattle.call_model.specs.AnyBytes.{SoundFor}
 use Rattle.call_model.proofs.AnyBytes.{on-any-bytes}
+use Rattle.call_model.proofs.IfAny.{no-head, none-unsound}
 use Rattle.call_datagram.specs.Received.{received}
 use Rattle.log_answer.specs.AnswerRows.{numberRow}
 use Rattle.log_received.specs.AnswerLine.{receivedRow}
 use Rattle.log_replay.specs.Replay.{withTable, lineAnswer, lineAfter, answer, after}
 use Rattle.log_replay.specs.Claims.{isCallLine, withoutTable, NoTable}
 
--- no bytes are no table
-no-header : headerSound [] ≡ false
-unfolding headerSound part numberFrom
-no-header = refl
-
-nothing-sound : tableSound [] ≡ false
-unfolding tableSound
-nothing-sound = rw no-header refl
-
 not-sound : (c : Call) → SoundFor reading [] c → ⊥
-not-sound (datagram now unix address udp key bytes) h = never (sym (h .0) ∙ no-header)
-not-sound (pingSent now key address udp tcp hash) h = never (sym (h .0) ∙ no-header)
-not-sound (sweep now) h = never (sym h ∙ nothing-sound)
-not-sound (closest target room) h = never (sym h ∙ nothing-sound)
+not-sound (datagram now unix address udp key bytes) h = never (sym (h .0) ∙ no-head [] refl)
+not-sound (pingSent now key address udp tcp hash) h = never (sym (h .0) ∙ no-head [] refl)
+not-sound (sweep now) h = never (sym h ∙ none-unsound [] refl)
+not-sound (closest target room) h = never (sym h ∙ none-unsound [] refl)
 not-sound (unclocked c) h = not-sound c h
 
 pub no-table-number : (c : Call) → answerOn reading [] c ≡ 1

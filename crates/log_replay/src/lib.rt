@@ -16,9 +16,9 @@ use log_own::own;
 use log_state::Replay;
 use log_state::Stepped;
 
-// Answers one line, without its 0A.
+// Answers one line, without its 0A. The lines before it led to a sound table, if to any, so that its call tests none.
 pub fn step(memory: &mut [u8], out: &mut [u8], replay: Replay, line: &[u8]) -> Stepped
-    requires { ⌜ (46304 ≤ length (now memory)) × ((answerRoom ≤ length (now out)) × (replay .count ≤ 16)) ⌝ }
+    requires { ⌜ (46304 ≤ length (now memory)) × ((answerRoom ≤ length (now out)) × ((replay .count ≤ 16) × Reached (stateOf replay (now memory)))) ⌝ }
     ensures { λ r. ⌜ AnsweredLine replay (whole (now (line .entry))) (now (memory .entry)) (now (out .entry)) r (now (memory .exit)) (now (out .exit)) ⌝ }
 {
     let size = replay.size();

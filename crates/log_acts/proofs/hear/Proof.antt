@@ -10,7 +10,7 @@ use Rattle.log_acts.proofs.hear.Tie as tie
 returns : tie.Need-returns
 returns c =
     let a = c .before .before .before .before .before .before .before .before .before .before .before .before .args in
-    let d = c .before .before .before .before .before .datagram-on in (
+    let d = c .before .before .before .before .before .datagram-on-sound in (
       c .heard .ensures
           ∙ ap (λ r. heardActs (a .place) r (a .clock) (a .address .now) (a .port)) (d .ensures .0)
           ∙ heard-own (a .key .now) (a .place) (a .table .now) (a .clock) (record { 0 = a .unix }) (a .address .now) (a .port) (a .signer .now) (a .datagram .now)
@@ -21,7 +21,7 @@ returns c =
 returns-2 : tie.Need-returns-2
 returns-2 c =
     let a = c .before .before .before .before .before .before .before .before .before .before .before .before .before .args in
-    let d = c .before .before .before .before .before .before .datagram-on in (
+    let d = c .before .before .before .before .before .before .datagram-on-sound in (
       c .idle .ensures
           ∙ ap idle (c .before .number .ensures ∙ ap numberOf (d .ensures .0))
           ∙ heard-other (a .key .now) (a .place) (a .table .now) (a .clock) (record { 0 = a .unix }) (a .address .now) (a .port) (a .signer .now) (a .datagram .now)

@@ -11,7 +11,7 @@ use Rattle.log_calls.proofs.rx.Statement.{statement}
 use Rattle.log_calls.proofs.rx.Tie as tie
 
 put-received-requires : tie.Need-put-received-requires
-put-received-requires c κs = c .before .before .before .before .before .before .before .before .before .before .before .before .before .before .before .before .before .before .before .before .before .before .before .pre .0
+put-received-requires c κs = c .before .before .before .before .before .before .before .before .before .before .before .before .before .before .before .before .before .before .before .before .before .before .before .pre .0 .0
 
 returns : tie.Need-returns
 returns c =
@@ -20,7 +20,7 @@ returns c =
     (decoded (c .before .before .before .before .before .before .before .before .before .before .before .before .before .before .before .before .before .before .before .before .before .decode-field .ensures))
     (decoded (c .before .before .before .before .before .before .before .before .before .before .before .before .before .before .before .before .before .before .decode-field2 .ensures))
     (decoded (c .before .before .before .before .before .before .before .before .before .before .before .before .before .before .before .decode-field3 .ensures))
-    (c .before .before .before .before .before .before .datagram-on .ensures)
+    (c .before .before .before .before .before .before .datagram-on-sound .ensures)
     (c .before .before .put-received .ensures)
 
 pub rx-spec : {M : Type 1} → statement M

@@ -10,7 +10,7 @@ use Rattle.log_calls.proofs.sent.Statement.{statement}
 use Rattle.log_calls.proofs.sent.Tie as tie
 
 put-number-requires : tie.Need-put-number-requires
-put-number-requires c κs = c .before .before .before .before .before .before .before .before .before .before .before .before .before .before .before .before .before .before .before .before .before .before .before .pre .0
+put-number-requires c κs = c .before .before .before .before .before .before .before .before .before .before .before .before .before .before .before .before .before .before .before .before .before .before .before .pre .0 .0
 
 returns : tie.Need-returns
 returns c =
@@ -19,7 +19,7 @@ returns c =
     (decoded (c .before .before .before .before .before .before .before .before .before .before .before .before .before .before .before .before .before .before .before .before .before .decode-field .ensures))
     (decoded (c .before .before .before .before .before .before .before .before .before .before .before .before .before .before .before .before .before .before .decode-field2 .ensures))
     (decoded (c .before .before .before .before .before .before .before .before .before .before .before .before .before .before .before .decode-field3 .ensures))
-    (c .before .before .before .before .before .before .ping-sent-on .ensures)
+    (c .before .before .before .before .before .before .ping-sent-on-sound .ensures)
     (c .before .before .put-number .ensures)
 
 pub sent-spec : {M : Type 1} → statement M

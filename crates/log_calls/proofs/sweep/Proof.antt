@@ -8,7 +8,7 @@ use Rattle.log_calls.proofs.sweep.Tie as tie
 returns : tie.Need-returns
 returns c =
     answered numberRow (c .before .before .before .before .before .before .before .before .before .before .args .out .now)
-    (c .before .before .before .before .before .before .sweep-on .ensures) (c .before .before .put-number .ensures)
+    (c .before .before .before .before .before .before .sweep-on-sound .ensures) (c .before .before .put-number .ensures)
 
 pub sweep-spec : {M : Type 1} → statement M
 sweep-spec =

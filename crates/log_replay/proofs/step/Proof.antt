@@ -10,6 +10,7 @@ use Rattle.log_received.specs.AnswerLine.{receivedRow}
 use Rattle.log_replay.specs.Replay.{lineAfter, lineAnswer}
 use Rattle.log_replay.proofs.Fields.{read-short, read-spans}
 use Rattle.log_replay.proofs.Answered.{unchanged, called, by-line}
+use Rattle.log_replay.proofs.Kept.{lent-sound}
 use borrow.Author.Needs.{needs}
 use Rattle.log_replay.proofs.step.Statement.{statement}
 use Rattle.log_replay.proofs.step.Tie as tie
@@ -20,7 +21,7 @@ own-requires c κs =
     let line = c .before .before .before .before .before .before .before .before .before .before .args .line .now in
     let e = sym (c .before .before .before .before .before .read-line .ensures) ∙ c .before .before .before .said .given .1 in
     let f = read-spans line _ e in
-    (p .0, (p .1 .0, (p .1 .1, (read-short line _ e refl, f .0 .within))))
+    (p .0, (p .1 .0, (p .1 .1 .0, (read-short line _ e refl, f .0 .within))))
 
 returns : tie.Need-returns
 unfolding lineAfter lineAnswer
@@ -30,19 +31,30 @@ returns c =
 
 rx-requires : tie.Need-rx-requires
 rx-requires c κs =
+    let a = c .before .before .before .before .before .before .before .before .before .before .args in
     let p = c .before .before .before .before .before .before .before .before .before .before .pre in
-    let line = c .before .before .before .before .before .before .before .before .before .before .args .line .now in
+    let z = c .before .before .before .before .before .before .size in
+    let line = a .line .now in
     let e = sym (c .before .before .before .before .before .read-line .ensures) ∙ c .before .before .before .said2 .given .1 in
     let f = read-spans line _ e in
-    (p .1 .0, (read-short line _ e refl, (f .0 .within, (f .1 .0 .within, f .1 .1 .0 .within))))
+    ((p .1 .0, (read-short line _ e refl, (f .0 .within, (f .1 .0 .within, f .1 .1 .0 .within)))), lent-sound (a .replay) (a .memory .now) (z .result) (z .ensures .0) (p .1 .1 .1))
 
 sent-requires : tie.Need-sent-requires
 sent-requires c κs =
+    let a = c .before .before .before .before .before .before .before .before .before .before .args in
     let p = c .before .before .before .before .before .before .before .before .before .before .pre in
-    let line = c .before .before .before .before .before .before .before .before .before .before .args .line .now in
+    let z = c .before .before .before .before .before .before .size in
+    let line = a .line .now in
     let e = sym (c .before .before .before .before .before .read-line .ensures) ∙ c .before .before .before .said3 .given .1 in
     let f = read-spans line _ e in
-    (p .1 .0, (read-short line _ e refl, (f .0 .within, (f .1 .0 .within, f .1 .1 .0 .within))))
+    ((p .1 .0, (read-short line _ e refl, (f .0 .within, (f .1 .0 .within, f .1 .1 .0 .within)))), lent-sound (a .replay) (a .memory .now) (z .result) (z .ensures .0) (p .1 .1 .1))
+
+sweep-requires : tie.Need-sweep-requires
+sweep-requires c κs =
+    let a = c .before .before .before .before .before .before .before .before .before .before .args in
+    let p = c .before .before .before .before .before .before .before .before .before .before .pre in
+    let z = c .before .before .before .before .before .before .size in
+    (p .1 .0, lent-sound (a .replay) (a .memory .now) (z .result) (z .ensures .0) (p .1 .1 .1))
 
 returns-2 : tie.Need-returns-2
 unfolding lineAfter lineAnswer
@@ -52,7 +64,7 @@ returns-2 c =
     let g = c .before .before .before .before .before .before .before .before .said2 .given .0 in
     let r = c .before .before .before .before .rx in
     by-line (a .replay) (a .line .now) (a .memory .now) (a .out .now) _ (sym (c .before .before .before .before .before .before .before .before .before .before .read-line .ensures) ∙ c .before .before .before .before .before .before .before .before .said2 .given .1)
-    (called (a .replay) (a .memory .now) (a .out .now) (p .0) (p .1 .1) (λ s. receivedRow (received s (g .0) (g .1 .0) (said (a .line .now) (g .1 .1 .0)) (g .1 .1 .1 .0) (said (a .line .now) (g .1 .1 .1 .1 .0)) (said (a .line .now) (g .1 .1 .1 .1 .1 .0)))) (λ s. bytesAfter reading s (datagram (g .0) (g .1 .0) (said (a .line .now) (g .1 .1 .0)) (g .1 .1 .1 .0) (said (a .line .now) (g .1 .1 .1 .1 .0)) (said (a .line .now) (g .1 .1 .1 .1 .1 .0)))) (c .before .before .before .before .before .before .before .before .before .before .before .size .result) (c .before .before .before .before .before .before .before .before .before .before .before .size .ensures .0)
+    (called (a .replay) (a .memory .now) (a .out .now) (p .0) (p .1 .1 .0) (λ s. receivedRow (received s (g .0) (g .1 .0) (said (a .line .now) (g .1 .1 .0)) (g .1 .1 .1 .0) (said (a .line .now) (g .1 .1 .1 .1 .0)) (said (a .line .now) (g .1 .1 .1 .1 .1 .0)))) (λ s. bytesAfter reading s (datagram (g .0) (g .1 .0) (said (a .line .now) (g .1 .1 .0)) (g .1 .1 .1 .0) (said (a .line .now) (g .1 .1 .1 .1 .0)) (said (a .line .now) (g .1 .1 .1 .1 .1 .0)))) (c .before .before .before .before .before .before .before .before .before .before .before .size .result) (c .before .before .before .before .before .before .before .before .before .before .before .size .ensures .0)
     (r .ensures .0) (r .ensures .1 .0) (r .ensures .1 .1 .0) (r .ensures .1 .1 .1) (r .kept .0) refl)
 
 returns-3 : tie.Need-returns-3
@@ -63,7 +75,7 @@ returns-3 c =
     let g = c .before .before .before .before .before .before .before .before .said3 .given .0 in
     let r = c .before .before .before .before .sent in
     by-line (a .replay) (a .line .now) (a .memory .now) (a .out .now) _ (sym (c .before .before .before .before .before .before .before .before .before .before .read-line .ensures) ∙ c .before .before .before .before .before .before .before .before .said3 .given .1)
-    (called (a .replay) (a .memory .now) (a .out .now) (p .0) (p .1 .1) (λ s. numberRow (answerOn reading s (pingSent (g .0) (said (a .line .now) (g .1 .0)) (said (a .line .now) (g .1 .1 .0)) (g .1 .1 .1 .0) (g .1 .1 .1 .1 .0) (said (a .line .now) (g .1 .1 .1 .1 .1 .0))))) (λ s. bytesAfter reading s (pingSent (g .0) (said (a .line .now) (g .1 .0)) (said (a .line .now) (g .1 .1 .0)) (g .1 .1 .1 .0) (g .1 .1 .1 .1 .0) (said (a .line .now) (g .1 .1 .1 .1 .1 .0)))) (c .before .before .before .before .before .before .before .before .before .before .before .size .result) (c .before .before .before .before .before .before .before .before .before .before .before .size .ensures .0)
+    (called (a .replay) (a .memory .now) (a .out .now) (p .0) (p .1 .1 .0) (λ s. numberRow (answerOn reading s (pingSent (g .0) (said (a .line .now) (g .1 .0)) (said (a .line .now) (g .1 .1 .0)) (g .1 .1 .1 .0) (g .1 .1 .1 .1 .0) (said (a .line .now) (g .1 .1 .1 .1 .1 .0))))) (λ s. bytesAfter reading s (pingSent (g .0) (said (a .line .now) (g .1 .0)) (said (a .line .now) (g .1 .1 .0)) (g .1 .1 .1 .0) (g .1 .1 .1 .1 .0) (said (a .line .now) (g .1 .1 .1 .1 .1 .0)))) (c .before .before .before .before .before .before .before .before .before .before .before .size .result) (c .before .before .before .before .before .before .before .before .before .before .before .size .ensures .0)
     (r .ensures .0) (r .ensures .1 .0) (r .ensures .1 .1 .0) (r .ensures .1 .1 .1) (r .kept .0) refl)
 
 returns-4 : tie.Need-returns-4
@@ -74,7 +86,7 @@ returns-4 c =
     let g = c .before .before .before .before .before .before .before .before .said4 .given .0 in
     let r = c .before .before .before .before .sweep in
     by-line (a .replay) (a .line .now) (a .memory .now) (a .out .now) _ (sym (c .before .before .before .before .before .before .before .before .before .before .read-line .ensures) ∙ c .before .before .before .before .before .before .before .before .said4 .given .1)
-    (called (a .replay) (a .memory .now) (a .out .now) (p .0) (p .1 .1) (λ s. numberRow (answerOn reading s (sweep (g .0)))) (λ s. bytesAfter reading s (sweep (g .0))) (c .before .before .before .before .before .before .before .before .before .before .before .size .result) (c .before .before .before .before .before .before .before .before .before .before .before .size .ensures .0)
+    (called (a .replay) (a .memory .now) (a .out .now) (p .0) (p .1 .1 .0) (λ s. numberRow (answerOn reading s (sweep (g .0)))) (λ s. bytesAfter reading s (sweep (g .0))) (c .before .before .before .before .before .before .before .before .before .before .before .size .result) (c .before .before .before .before .before .before .before .before .before .before .before .size .ensures .0)
     (r .ensures .0) (r .ensures .1 .0) (r .ensures .1 .1 .0) (r .ensures .1 .1 .1) (r .kept .0) refl)
 
 returns-5 : tie.Need-returns-5
@@ -84,7 +96,7 @@ returns-5 c =
     let p = c .before .before .before .before .before .before .before .before .before .before .before .pre in
     let w = c .before .before .put-number .ensures in
     by-line (a .replay) (a .line .now) (a .memory .now) (a .out .now) _ (sym (c .before .before .before .before .before .before .read-line .ensures) ∙ c .before .before .before .before .enum-told .given .1)
-    (unchanged (a .replay) (a .memory .now) (a .out .now) (p .0) (p .1 .1) (numberRow 21) (w .0) (w .1 .0) (w .1 .1))
+    (unchanged (a .replay) (a .memory .now) (a .out .now) (p .0) (p .1 .1 .0) (numberRow 21) (w .0) (w .1 .0) (w .1 .1))
 
 pub step-spec : {M : Type 1} → statement M
 step-spec =
@@ -111,7 +123,7 @@ step-spec =
     (λ c. search needs)
     (λ c. search needs)
     (λ c. search needs)
-    (λ c κs. search needs)
+    sweep-requires
     (λ c. search needs)
     (λ c κs. search needs)
     (λ c. search needs)

@@ -7,6 +7,9 @@ use native.Mathlib.Omega.{arith}
 use Rattle.replay.proofs.answer.Statement.{statement}
 use Rattle.replay.proofs.answer.Tie as tie
 
+step-requires : tie.Need-step-requires
+step-requires c κs = let h = c .before .before .before .before .before .before .before .before .before .before .pre .0 in (h .memory-size, (search needs, (h .count, h .reached)))
+
 add-t24 : tie.Need-add-t24
 add-t24 c = omega (arith, c .before .before .before .before .before .before .before .before .before .before .before .before .before .before .make-room .ensures, c .before .before .before .before .before .before .before .before .before .before .step .ensures .room, c .before .before .before .before .before .before .before .before .before .before .before .before .before .before .before .before .before .before .before .before .before .good .1 .1 .0 .0)
 
@@ -28,7 +31,7 @@ answer-spec =
     (λ c. search needs)
     (λ c. search needs)
     (λ c. search needs)
-    (λ c κs. search needs)
+    step-requires
     (λ c. search needs)
     (λ c. search needs)
     (λ c. search needs)

@@ -1,29 +1,14 @@
 //! `hashing LOG`: the hashing that a log's lines make necessary, as lines `LENGTH COUNT`: how many messages
-//! of each length. A keyed call hashes its key and the keys held in the bucket that it touches (they must
-//! be in their own bucket, or the answer is 1), a datagram of the right length also its part after the
-//! hash, a sweep all held keys, `own` its key.
+//! of each length. A keyed call hashes its key, a datagram of the right length also its part after the
+//! hash, `own` its key. The table that the lines lead to is sound, so no held key is hashed again.
 
 use std::collections::BTreeMap;
 use std::io::{self, BufRead};
 
 use reference::calls::Call;
-use reference::keccak::keccak256;
 use reference::log::{read, Line, Replay};
-use reference::table::Table;
 
 const KEY: usize = 64;
-
-/// How many keys a call with this key hashes.
-fn keyed(table: &Table, key: &[u8]) -> u64 {
-    if key.len() != KEY {
-        return 0;
-    }
-    let held = table.index(&keccak256(key)).map_or(0, |at| {
-        let bucket = &table.buckets[at];
-        bucket.entries.len() + bucket.replacements.len()
-    });
-    1 + held as u64
-}
 
 fn main() -> io::Result<()> {
     let path = std::env::args_os().nth(1).expect("usage: hashing LOG");
@@ -40,13 +25,10 @@ fn main() -> io::Result<()> {
                     if now >= table.clock && (98..=1280).contains(&datagram.len()) {
                         *counts.entry(datagram.len() - 32).or_default() += 1;
                     }
-                    keyed(table, &signer)
+                    u64::from(signer.len() == KEY)
                 }
-                Call::PingSent { key, .. } => keyed(table, &key),
-                Call::Sweep { .. } => {
-                    table.buckets.iter().map(|b| (b.entries.len() + b.replacements.len()) as u64).sum()
-                }
-                Call::Closest { .. } => 0,
+                Call::PingSent { key, .. } => u64::from(key.len() == KEY),
+                Call::Sweep { .. } | Call::Closest { .. } => 0,
             },
             _ => 0,
         };
