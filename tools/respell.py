@@ -76,6 +76,10 @@ def plan():
         return out
 
     olds = {n for n in spec | lemma | field | (local - answer) if camel(n) or "-" in n or any(camel(x) for x in n.split("-"))}
+    # what a module or a `where` declares further in
+    for p, t in text.items():
+        code = re.sub(r"(?m)^\s*--.*$", "", t)
+        olds.update(w for w in TOKEN.findall(code) if any(re.fullmatch(r"[a-z][a-z0-9']*[A-Z][A-Za-z0-9']*", x) for x in w.split("-")))
     olds -= {n for n in answer if n not in spec and n not in lemma and n not in field}
     table, kept = {}, []
     by_new = collections.defaultdict(list)

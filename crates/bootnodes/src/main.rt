@@ -1,6 +1,8 @@
 // bootnodes [FILE]: prints the nodes of the boot list in the file, or of standard input, a row each, and then how it ended: `complete` and the number
 // of nodes, or 22 and the number of the line that does not fit. A file that can't be opened or read is reported on standard error, and so is a write that
 // fails; either ends the program.
+#![tactic(auto)]
+
 ghost use Rattle.std.specs.Prelude.{◌≡◌, true, ◌≤◌, ◌<◌, length};
 ghost use Rattle.log_lines.specs.Steps.{fresh};
 ghost use Rattle.bootnodes.specs.Steps.{Ready, left};
@@ -9,7 +11,7 @@ use libc::{STDIN_FILENO, STDOUT_FILENO};
 use log_lines::{Begun, LIMIT, Last, Step};
 use node::Node;
 
-#[derive(Drop)]
+#[derive(Clone, Copy)]
 struct Progress {
     begun: Begun,
     // The nodes printed.

@@ -93,17 +93,17 @@ replace_holds l i e w h hi =
 
 module _ {A : Type 0} (q : A → Bool) where
   -- none of the first i elements passes the test, and the next one does
-  pub indexOf-found : (l : List A) (d : A) (i : ℕ) → i < length l → index_of q (take i l) ≡ i → q (get_or l i d) ≡ true → index_of q l ≡ i
-  indexOf-found [] d i h none e = absurd (omega arith)
-  indexOf-found (a ∷ l) d zero h none e = rw e refl
-  indexOf-found (a ∷ l) d (suc i) h none e =
+  pub index_of-found : (l : List A) (d : A) (i : ℕ) → i < length l → index_of q (take i l) ≡ i → q (get_or l i d) ≡ true → index_of q l ≡ i
+  index_of-found [] d i h none e = absurd (omega arith)
+  index_of-found (a ∷ l) d zero h none e = rw e refl
+  index_of-found (a ∷ l) d (suc i) h none e =
       by_test (q a)
       (λ t. absurd (let z : 0 ≡ suc i = rw t at none in omega arith))
-      (λ t. let less : index_of q (take i l) ≡ i = suc_inj (rw t at none) in rw t (ap suc (indexOf-found l d i (omega arith) less e)))
+      (λ t. let less : index_of q (take i l) ≡ i = suc_inj (rw t at none) in rw t (ap suc (index_of-found l d i (omega arith) less e)))
 
   -- the next one does not pass it either
-  pub indexOf-turn : (l : List A) (d : A) (i : ℕ) → i < length l → index_of q (take i l) ≡ i → q (get_or l i d) ≡ false → index_of q (take (i + 1) l) ≡ i + 1
-  indexOf-turn l d i h none e = rw add-one (go l i h none e)
+  pub index_of_turn : (l : List A) (d : A) (i : ℕ) → i < length l → index_of q (take i l) ≡ i → q (get_or l i d) ≡ false → index_of q (take (i + 1) l) ≡ i + 1
+  index_of_turn l d i h none e = rw add-one (go l i h none e)
     where
       go : (l : List A) (i : ℕ) → i < length l → index_of q (take i l) ≡ i → q (get_or l i d) ≡ false → index_of q (take (suc i) l) ≡ suc i
       go [] i h none e = absurd (omega arith)
@@ -120,10 +120,10 @@ module _ (l : EntryList) (key : Bytes) (i : ℕ) (w : length l.items ≡ 16) (h 
       let at : is_of key (get_or (listed l) i no_entry) ≡ true =
       ap (λ x. is_of key x) (get_or-take l.len l.items i no_entry less) ∙ sym e ∙ t in
       let before : index_of (is_of key) (take i (listed l)) ≡ i = rw (take-take i l.len l.items (omega arith)) none in
-      sym (indexOf-found (is_of key) (listed l) no_entry i (omega (arith, length-listed l w h)) before at)
+      sym (index_of-found (is_of key) (listed l) no_entry i (omega (arith, length-listed l w h)) before at)
 
   pub find-turn : i < l.len → {is : Bool} → is ≡ is_of key (get_or l.items i no_entry) → is ≡ false → index_of (is_of key) (take (i + 1) l.items) ≡ i + 1
-  find-turn less e t = indexOf-turn (is_of key) l.items no_entry i (omega arith) none (sym e ∙ t)
+  find-turn less e t = index_of_turn (is_of key) l.items no_entry i (omega arith) none (sym e ∙ t)
 
   pub find_none : i ≡ l.len → l.len ≡ index_of (is_of key) (listed l)
   find_none e = sym (rw e at none)

@@ -1,4 +1,6 @@
 // A bucket by value: its entries from head to tail, and its replacements in order.
+#![tactic(auto)]
+
 ghost use Rattle.std.specs.Prelude.{◌≡◌, [], ◌∷◌, ◌++◌, ◌+◌, ◌*◌, ◌≤◌, ◌<◌, ltb, length, get_or, set};
 ghost use Rattle.octets.specs.Octets.{part, store};
 ghost use Rattle.bucket_model.specs.Contents.{no_contents, entries_at, encode_entries, encode_list, encode_bucket, decode_bucket};
@@ -8,21 +10,21 @@ ghost use Rattle.bucket.specs.Steps.{listed, Holds, remove_at, index_of, content
 use entry::Entry;
 
 // Up to sixteen entries in order; what lies past `len` says nothing.
-#[derive(Drop)]
+#[derive(Clone, Copy)]
 pub struct EntryList {
     pub len: usize,
     pub items: [Entry; 16],
 }
 
 // Document 01's seats and waiting line.
-#[derive(Drop)]
+#[derive(Clone, Copy)]
 pub struct Bucket {
     pub entries: EntryList,
     pub replacements: EntryList,
 }
 
 // Where a node is held: in which list, at which index.
-#[derive(Drop)]
+#[derive(Clone, Copy)]
 pub enum Position {
     Absent,
     InEntries(usize),

@@ -1,4 +1,6 @@
 // What the rules of a bucket ask of one entry, and what they make of it.
+#![tactic(auto)]
+
 ghost use Rattle.std.specs.Prelude.{◌≡◌, ◌≤◌, ◌&&◌, length, take};
 ghost use Rattle.bucket_model.specs.Rules.{is_at, is_verified, is_awaited, pinged, ponged, heard, endpoint_of, new_entry};
 ghost use Rattle.octets.specs.Octets.{same_bytes};

@@ -134,12 +134,12 @@ pub located : {P : Type 0} (key : Bytes) (m : Contents) → distinct (m.entries 
     → (position_of key m ≡ Absent → any (is_of key) m.entries ≡ false → any (is_of key) m.replacements ≡ false → P)
     → P
 unfolding position_of
-located key m h inE in_r none =
+located key m h in_e in_r none =
     let i : ℕ = index_of (is_of key) m.entries in
     let j : ℕ = index_of (is_of key) m.replacements in
     by_test (ltb i (length m.entries))
     (λ t. let below : i < length m.entries = ltb-true _ _ t in
-    inE i (rw t refl) (record { at = refl; below = below; keys = distinct-left m.entries m.replacements h }) (across key m.entries m.replacements h below))
+    in_e i (rw t refl) (record { at = refl; below = below; keys = distinct-left m.entries m.replacements h }) (across key m.entries m.replacements h below))
     (λ t. let no : any (is_of key) m.entries ≡ false = index-none key m.entries (ltb-false _ _ t) in
     by_test (ltb j (length m.replacements))
     (λ u. in_r j (rw (t, u) refl) no (record { at = refl; below = ltb-true _ _ u; keys = distinct_right m.entries m.replacements h }))

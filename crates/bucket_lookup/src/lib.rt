@@ -1,4 +1,6 @@
 // A node of a bucket by value, looked up by its key, with the tests of 13 to 18.
+#![tactic(auto)]
+
 ghost use Rattle.std.specs.Prelude.{◌≡◌, not, ◌&&◌, ◌||◌, ◌≤◌, ◌<◌, leb};
 ghost use Rattle.lists.specs.Lists.{any, empty};
 ghost use Rattle.bucket_model.specs.Rules.{range_full, is_out, is_overdue, is_at, is_verified, is_awaited};
@@ -10,7 +12,7 @@ use entry::Entry;
 use node::MonotonicMillis;
 
 // Where a node is held, with its entry there.
-#[derive(Drop)]
+#[derive(Clone, Copy)]
 pub struct Lookup {
     pub position: Position,
     pub entry: Entry,

@@ -11,7 +11,7 @@ use Rattle.node.specs.declared.Endpoint.{Endpoint}
 use Rattle.entry.specs.declared.Entry.{Entry}
 use Rattle.bucket_model.specs.Contents.{Contents}
 use Rattle.bucket_model.specs.Rules.{of_key, held, takes_entry, pinged, ponged, heard, on_ping_sent, on_pong, on_heard}
-use Rattle.bucket_model.proofs.View.{SameAs, Mapped, other-pingSent, other-heard, other-pong, own-heard, own-pong-stays, own-pong-takes, own-pinged}
+use Rattle.bucket_model.proofs.View.{SameAs, Mapped, other_ping_sent, other-heard, other-pong, own-heard, own-pong-stays, own-pong-takes, own-pinged}
 
 -- the endpoint at which X is held, if it is
 abbrev pub endpoints_of : Bytes → Contents → List Endpoint
@@ -61,10 +61,10 @@ module _ (now : ℕ) (key : Bytes) (b : Contents) where
       (λ g. rw (same_eq X key g) own-pong)
       (λ g. same_endpoints X b (on_pong now key b) (other-pong X key g now b))
 
-  pub endpoint-pingSent : (address : Bytes) (udp tcp : ℕ) (hash : Bytes) → empty (held key b) ≡ false
+  pub endpoint_ping_sent : (address : Bytes) (udp tcp : ℕ) (hash : Bytes) → empty (held key b) ≡ false
       → (X : Bytes) → endpoints_of X (on_ping_sent now key address udp tcp hash b) ≡ endpoints_of X b
-  endpoint-pingSent address udp tcp hash old X =
+  endpoint_ping_sent address udp tcp hash old X =
       by_test (same_bytes X key)
       (λ g. rw (same_eq X key g)
       (mapped-endpoints (pinged now hash) (λ p. refl) (on_ping_sent now key address udp tcp hash b) (own-pinged now key b address udp tcp hash old)))
-      (λ g. same_endpoints X b (on_ping_sent now key address udp tcp hash b) (other-pingSent X key g now b address udp tcp hash))
+      (λ g. same_endpoints X b (on_ping_sent now key address udp tcp hash b) (other_ping_sent X key g now b address udp tcp hash))

@@ -9,14 +9,14 @@ use Rattle.entry.specs.declared.Entry.{Entry}
 use Rattle.bucket_model.specs.Contents.{Contents}
 use Rattle.bucket_model.specs.Rules.{of_key, is_of, held, to_tail, pinged, ponged, heard, new_entry, stays_entry, stays_replacement, takes_entry, on_ping_sent, on_pong, on_heard, on_sweep}
 pub use Rattle.bucket_model.specs.Facts.{Every}
-use Rattle.bucket_model.proofs.Keys.{All-update, All-toTail, All-promoted, All-remaining}
+use Rattle.bucket_model.proofs.Keys.{All-update, All-to_tail, All-promoted, All-remaining}
 
 module _ (P : Entry → Type 0) (now : ℕ) (m : Contents) (every : Every P m) where
-  pub every-pingSent : (key address : Bytes) (udp tcp : ℕ) (hash : Bytes)
+  pub every_ping_sent : (key address : Bytes) (udp tcp : ℕ) (hash : Bytes)
       → (empty (held key m) ≡ true → P (new_entry now key address udp tcp hash)) → ((p : Entry) → P p → P (pinged now hash p))
       → Every P (on_ping_sent now key address udp tcp hash m)
   unfolding on_ping_sent
-  every-pingSent key address udp tcp hash new f =
+  every_ping_sent key address udp tcp hash new f =
       by_test (empty (held key m))
       (λ g. rw g (every.0, All-append P m.replacements _ every.1 (new g, tt)))
       (λ g. rw g (
@@ -27,7 +27,7 @@ module _ (P : Entry → Type 0) (now : ℕ) (m : Contents) (every : Every P m) w
   pub every-pong : (key : Bytes) → ((p : Entry) → P p → P (ponged now p)) → Every P (on_pong now key m)
   unfolding on_pong
   every-pong key f =
-      let tail = All-toTail P (ponged now) f key m.entries every.0 in
+      let tail = All-to_tail P (ponged now) f key m.entries every.0 in
       by_test (takes_entry key m)
       (λ g. rw g (
         All-append P (to_tail key (ponged now) m.entries) _ tail
@@ -39,7 +39,7 @@ module _ (P : Entry → Type 0) (now : ℕ) (m : Contents) (every : Every P m) w
   pub every-heard : (key : Bytes) → ((p : Entry) → P p → P (heard now p)) → Every P (on_heard now key m)
   unfolding on_heard
   every-heard key f =
-      (All-toTail P (heard now) f key m.entries every.0, All-update P (heard now) f key m.replacements every.1)
+      (All-to_tail P (heard now) f key m.entries every.0, All-update P (heard now) f key m.replacements every.1)
 
   pub every-sweep : Every P (on_sweep now m)
   unfolding on_sweep

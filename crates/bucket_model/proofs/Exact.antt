@@ -14,9 +14,9 @@ use Rattle.bucket_model.specs.Sound.{keeps_rules, sound}
 use Rattle.bucket_model.specs.Claims.{SoundHasForm, FormIsSound}
 use Rattle.bucket_model.proofs.ByteForm.{decode_encode_bucket, decode_bucket_is}
 
-pub sound-has_form : SoundHasForm
+pub sound_has_form : SoundHasForm
 unfolding sound
-sound-has_form home clock s n bs h =
+sound_has_form home clock s n bs h =
     let a = leb (get_or s 0 0) 16 in
     let b = leb (get_or s 1 0) 4 in
     let c = same_bytes (encode_bucket (decode_bucket s)) s in

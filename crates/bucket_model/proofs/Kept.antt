@@ -20,10 +20,10 @@ use Rattle.entry.specs.declared.PingState.TheVariants.{Quiet, Out}
 use Rattle.bucket_model.specs.Contents.{Contents, no_contents}
 use Rattle.bucket_model.specs.Rules.{max_entries, max_replacements, is_of, of_key, without, update, to_tail, held, is_proved, is_out, no_room, endpoint_of, pinged, ponged, heard, new_entry, may_take, is_promoted, takes_entry, promoted, stays_entry, stays_replacement, on_ping_sent, on_pong, on_heard, on_sweep}
 use Rattle.bucket_model.specs.Sound.{address_form}
-use Rattle.bucket_model.proofs.Keys.{count-update, count-toTail, count-moved, length-to_tail, All-update, All-update-by, All-toTail, All-remaining, promoted_proved, length-promoted, length-remaining, promoted_all, promoted_or_remaining}
+use Rattle.bucket_model.proofs.Keys.{count-update, count-to_tail, count-moved, length-to_tail, All-update, All-update-by, All-to_tail, All-remaining, promoted_proved, length-promoted, length-remaining, promoted_all, promoted_or_remaining}
 use Rattle.bucket_model.proofs.Ranges.{KeepsEndpoint, Alike, may_alike, alike_tail, alike_update, not_later, takes_room, ranges_taken, ranges_tail, ranges_update, ranges_select, ranges_promoted}
 use Rattle.bucket_model.specs.Facts.{Every, ProofBy, PingBy, EntrySound, BucketSound}
-use Rattle.bucket_model.proofs.Every.{every-pingSent, every-pong, every-heard, every-sweep}
+use Rattle.bucket_model.proofs.Every.{every_ping_sent, every-pong, every-heard, every-sweep}
 use Rattle.bucket_model.proofs.Sound.{IsAddress}
 
 -- ---- an address in the 16 bytes that hold it
@@ -179,11 +179,11 @@ module _ (home : Bytes → Bool) where
                 (All-update (Settled m.entries) (pinged now hash) (λ p r. r) key m.replacements s.settled);
           }
 
-      pub sound-pingSent : home key ≡ true → IsAddress address → no_room key m ≡ false → Sound (on_ping_sent now key address udp tcp hash m)
+      pub sound_ping_sent : home key ≡ true → IsAddress address → no_room key m ≡ false → Sound (on_ping_sent now key address udp tcp hash m)
       unfolding on_ping_sent
-      sound-pingSent at_home form room =
+      sound_ping_sent at_home form room =
           let every : Every Ok (on_ping_sent now key address udp tcp hash m) =
-          every-pingSent Ok now m (s.entries_sound, s.replacements_sound) key address udp tcp hash
+          every_ping_sent Ok now m (s.entries_sound, s.replacements_sound) key address udp tcp hash
           (λ _. record {
             at_home = at_home;
             seen_by = omega arith;
@@ -206,10 +206,10 @@ module _ (home : Bytes → Bool) where
           record {
             entries_sound = every.0;
             replacements_sound = every.1;
-            once = λ X. simp (count-toTail (heard now) (λ p. refl) X key, count-update (heard now) (λ p. refl) X key) (s.once X);
+            once = λ X. simp (count-to_tail (heard now) (λ p. refl) X key, count-update (heard now) (λ p. refl) X key) (s.once X);
             entries_bound = simp (length-to_tail (heard now)) s.entries_bound;
             replacements_bound = simp length-map s.replacements_bound;
-            entries_proved = All-toTail IsProved (heard now) (λ p r. r) key m.entries s.entries_proved;
+            entries_proved = All-to_tail IsProved (heard now) (λ p r. r) key m.entries s.entries_proved;
             unproved_pinged = All-update MayStay (heard now) (λ p r. r) key m.replacements s.unproved_pinged;
             ranges = ranges_tail (heard now) (λ p. refl) key m.entries s.ranges;
             settled =
@@ -238,7 +238,7 @@ module _ (home : Bytes → Bool) where
             replacements_sound = every.1;
             once = λ X.
                 let was = s.once X in
-                let moved = simp (select-append, length-append) at (count-toTail (ponged now) (λ p. refl) X key m.entries) in
+                let moved = simp (select-append, length-append) at (count-to_tail (ponged now) (λ p. refl) X key m.entries) in
                 let taken_out = count-moved (ponged now) (λ p. refl) X key m.replacements in
                 simp (select-append, length-append) (omega arith);
             entries_bound =
@@ -247,7 +247,7 @@ module _ (home : Bytes → Bool) where
             replacements_bound = omega (arith, length-select (λ p. not (is_of key p)) m.replacements, s.replacements_bound);
             entries_proved =
                 All-append IsProved (to_tail key (ponged now) m.entries) _
-                (All-toTail IsProved (ponged now) (λ p r. refl) key m.entries s.entries_proved)
+                (All-to_tail IsProved (ponged now) (λ p r. refl) key m.entries s.entries_proved)
                 (All-map Ok IsProved (ponged now) (λ p r. refl) (of_key key m.replacements) (All-select Ok (is_of key) m.replacements s.replacements_sound));
             unproved_pinged = All-select MayStay _ m.replacements s.unproved_pinged;
             ranges =
@@ -271,10 +271,10 @@ module _ (home : Bytes → Bool) where
           record {
             entries_sound = every.0;
             replacements_sound = every.1;
-            once = λ X. simp (count-toTail (ponged now) (λ p. refl) X key, count-update (ponged now) (λ p. refl) X key) (s.once X);
+            once = λ X. simp (count-to_tail (ponged now) (λ p. refl) X key, count-update (ponged now) (λ p. refl) X key) (s.once X);
             entries_bound = simp (length-to_tail (ponged now)) s.entries_bound;
             replacements_bound = simp length-map s.replacements_bound;
-            entries_proved = All-toTail IsProved (ponged now) (λ p r. refl) key m.entries s.entries_proved;
+            entries_proved = All-to_tail IsProved (ponged now) (λ p r. refl) key m.entries s.entries_proved;
             unproved_pinged = All-update MayStay (ponged now) (λ p r. refl) key m.replacements s.unproved_pinged;
             ranges = ranges_tail (ponged now) (λ p. refl) key m.entries s.ranges;
             settled =

@@ -31,16 +31,16 @@ of_key-of_key k [] = refl
 of_key-of_key k (p ∷ l) = by_test (is_of k p) (λ h. simp (h, of_key-of_key k l)) (λ h. simp (h, of_key-of_key k l))
 
 module _ (f : Entry → Entry) (kf : KeepsKey f) where
-  pub ofKey-map : (X : Bytes) (l : List Entry) → of_key X (map f l) ≡ map f (of_key X l)
-  ofKey-map X [] = refl
-  ofKey-map X (p ∷ l) = by_test (is_of X p) (λ h. simp (kf p, h, ofKey-map X l)) (λ h. simp (kf p, h, ofKey-map X l))
+  pub of_key-map : (X : Bytes) (l : List Entry) → of_key X (map f l) ≡ map f (of_key X l)
+  of_key-map X [] = refl
+  of_key-map X (p ∷ l) = by_test (is_of X p) (λ h. simp (kf p, h, of_key-map X l)) (λ h. simp (kf p, h, of_key-map X l))
 
-  pub ofKey-update : (k : Bytes) (l : List Entry) → of_key k (update k f l) ≡ map f (of_key k l)
-  ofKey-update k [] = refl
-  ofKey-update k (p ∷ l) = by_test (is_of k p) (λ h. simp (h, kf p, ofKey-update k l)) (λ h. simp (h, ofKey-update k l))
+  pub of_key-update : (k : Bytes) (l : List Entry) → of_key k (update k f l) ≡ map f (of_key k l)
+  of_key-update k [] = refl
+  of_key-update k (p ∷ l) = by_test (is_of k p) (λ h. simp (h, kf p, of_key-update k l)) (λ h. simp (h, of_key-update k l))
 
-  pub ofKey-toTail : (k : Bytes) (l : List Entry) → of_key k (to_tail k f l) ≡ map f (of_key k l)
-  ofKey-toTail k l = simp (select-append, of_key-without k l, ofKey-map k (of_key k l), of_key-of_key k l)
+  pub of_key-to_tail : (k : Bytes) (l : List Entry) → of_key k (to_tail k f l) ≡ map f (of_key k l)
+  of_key-to_tail k l = simp (select-append, of_key-without k l, of_key-map k (of_key k l), of_key-of_key k l)
 
 -- ---- another key
 
@@ -52,14 +52,14 @@ module _ (X k : Bytes) (d : same_bytes X k ≡ false) where
       (λ h. simp (h, not_of X k p d h, other-without l))
       (λ h. by_test (is_of X p) (λ g. simp (h, g, other-without l)) (λ g. simp (h, g, other-without l)))
 
-  pub other-ofKey : (l : List Entry) → of_key X (of_key k l) ≡ []
-  other-ofKey [] = refl
-  other-ofKey (p ∷ l) =
-      by_test (is_of k p) (λ h. simp (h, not_of X k p d h, other-ofKey l)) (λ h. simp (h, other-ofKey l))
+  pub other_of_key : (l : List Entry) → of_key X (of_key k l) ≡ []
+  other_of_key [] = refl
+  other_of_key (p ∷ l) =
+      by_test (is_of k p) (λ h. simp (h, not_of X k p d h, other_of_key l)) (λ h. simp (h, other_of_key l))
 
   module _ (f : Entry → Entry) (kf : KeepsKey f) where
     pub other-map : (l : List Entry) → of_key X (map f (of_key k l)) ≡ []
-    other-map l = simp (ofKey-map f kf X, other-ofKey l)
+    other-map l = simp (of_key-map f kf X, other_of_key l)
 
     pub other-update : (l : List Entry) → of_key X (update k f l) ≡ of_key X l
     other-update [] = refl
@@ -68,8 +68,8 @@ module _ (X k : Bytes) (d : same_bytes X k ≡ false) where
         (λ h. simp (h, kf p, not_of X k p d h, other-update l))
         (λ h. by_test (is_of X p) (λ g. simp (h, g, other-update l)) (λ g. simp (h, g, other-update l)))
 
-    pub other-toTail : (l : List Entry) → of_key X (to_tail k f l) ≡ of_key X l
-    other-toTail l = simp (select-append, other-without l, other-map l, append-nil)
+    pub other_to_tail : (l : List Entry) → of_key X (to_tail k f l) ≡ of_key X l
+    other_to_tail l = simp (select-append, other-without l, other-map l, append-nil)
 
 -- ---- lengths
 
@@ -141,8 +141,8 @@ module _ (P : Entry → Type 0) where
       (λ i. rw i (h p a.0 i, All-update-by Q f k h g l a.1))
       (λ i. rw i (g p a.0 i, All-update-by Q f k h g l a.1))
 
-  pub All-toTail : (f : Entry → Entry) → ((p : Entry) → P p → P (f p)) → (k : Bytes) (l : List Entry) → All P l → All P (to_tail k f l)
-  All-toTail f h k l a =
+  pub All-to_tail : (f : Entry → Entry) → ((p : Entry) → P p → P (f p)) → (k : Bytes) (l : List Entry) → All P l → All P (to_tail k f l)
+  All-to_tail f h k l a =
       All-append P (without k l) (map f (of_key k l)) (All-select P _ l a) (All-map P P f h (of_key k l) (All-select P (is_of k) l a))
 
   pub All-promoted : (t l : List Entry) → All P l → All P (promoted t l)
@@ -165,18 +165,18 @@ module _ (f : Entry → Entry) (kf : KeepsKey f) (X k : Bytes) where
   pub count-update : (l : List Entry) → length (of_key X (update k f l)) ≡ length (of_key X l)
   count-update l =
       by_test (same_bytes X k)
-      (λ h. rw (same_eq X k h) (simp (ofKey-update f kf k l, length-map)))
+      (λ h. rw (same_eq X k h) (simp (of_key-update f kf k l, length-map)))
       (λ h. simp (other-update X k h f kf l))
 
-  pub count-toTail : (l : List Entry) → length (of_key X (to_tail k f l)) ≡ length (of_key X l)
-  count-toTail l =
+  pub count-to_tail : (l : List Entry) → length (of_key X (to_tail k f l)) ≡ length (of_key X l)
+  count-to_tail l =
       by_test (same_bytes X k)
-      (λ h. rw (same_eq X k h) (simp (ofKey-toTail f kf k l, length-map)))
-      (λ h. simp (other-toTail X k h f kf l))
+      (λ h. rw (same_eq X k h) (simp (of_key-to_tail f kf k l, length-map)))
+      (λ h. simp (other_to_tail X k h f kf l))
 
   -- taken out of one list and put into another
   pub count-moved : (l : List Entry) → length (of_key X (map f (of_key k l))) + length (of_key X (without k l)) ≡ length (of_key X l)
   count-moved l =
       by_test (same_bytes X k)
-      (λ h. rw (same_eq X k h) (simp (ofKey-map f kf, of_key-of_key k l, of_key-without k l, length-map) (omega arith)))
+      (λ h. rw (same_eq X k h) (simp (of_key-map f kf, of_key-of_key k l, of_key-without k l, length-map) (omega arith)))
       (λ h. simp (other-map X k h f kf l, other-without X k h l) (omega arith))

@@ -25,11 +25,11 @@ proved_entry p = is_proved p.proof
 
 module _ (X : Bytes) where
   -- the entries that X finds taken at its turn
-  unfoldable pub takenBefore : List Entry → List Entry → List Entry
-  takenBefore t l = t ++ promoted t (before (is_of X) l)
+  unfoldable pub taken_before : List Entry → List Entry → List Entry
+  taken_before t l = t ++ promoted t (before (is_of X) l)
 
-  pub promoted-room : (t l : List Entry) → length (of_key X l) ≤ 1 → 0 < length (of_key X (promoted t l)) → SeatFor X (takenBefore t l) l
-  unfolding takenBefore
+  pub promoted-room : (t l : List Entry) → length (of_key X l) ≤ 1 → 0 < length (of_key X (promoted t l)) → SeatFor X (taken_before t l) l
+  unfolding taken_before
   promoted-room t [] = λ o h. absurd (omega arith)
   promoted-room t (p ∷ l) =
       by_test (is_of X p)
@@ -42,9 +42,9 @@ module _ (X : Bytes) where
       (λ g. simp (f, g) (λ o h. rw append_assoc at (promoted-room (t ++ (p ∷ [])) l o h)))
       (λ g. simp (f, g) (λ o h. promoted-room t l o h)))
 
-  pub room-promoted : (t l : List Entry) → All (λ p. proved_entry p ≡ true) (of_key X l) → 0 < length (of_key X l) → SeatFor X (takenBefore t l) l
+  pub room-promoted : (t l : List Entry) → All (λ p. proved_entry p ≡ true) (of_key X l) → 0 < length (of_key X l) → SeatFor X (taken_before t l) l
       → 0 < length (of_key X (promoted t l))
-  unfolding takenBefore
+  unfolding taken_before
   room-promoted t [] = λ a h o. absurd (omega arith)
   room-promoted t (p ∷ l) =
       by_test (is_of X p)
@@ -59,27 +59,27 @@ module _ (X : Bytes) where
 
 -- a property of the node in line, through a promotion
 module _ (P : Entry → Type 0) (X : Bytes) where
-  pub ofKey-promoted : (t l : List Entry) → All P (of_key X l) → All P (of_key X (promoted t l))
-  ofKey-promoted t [] = λ a. tt
-  ofKey-promoted t (p ∷ l) =
+  pub of_key-promoted : (t l : List Entry) → All P (of_key X l) → All P (of_key X (promoted t l))
+  of_key-promoted t [] = λ a. tt
+  of_key-promoted t (p ∷ l) =
       by_test (is_promoted t p)
       (λ g. by_test (is_of X p)
-      (λ f. simp (g, f) (λ a. (a.0, ofKey-promoted (t ++ (p ∷ [])) l a.1)))
-      (λ f. simp (g, f) (λ a. ofKey-promoted (t ++ (p ∷ [])) l a)))
+      (λ f. simp (g, f) (λ a. (a.0, of_key-promoted (t ++ (p ∷ [])) l a.1)))
+      (λ f. simp (g, f) (λ a. of_key-promoted (t ++ (p ∷ [])) l a)))
       (λ g. by_test (is_of X p)
-      (λ f. simp (g, f) (λ a. ofKey-promoted t l a.1))
-      (λ f. simp (g, f) (λ a. ofKey-promoted t l a)))
+      (λ f. simp (g, f) (λ a. of_key-promoted t l a.1))
+      (λ f. simp (g, f) (λ a. of_key-promoted t l a)))
 
-  pub ofKey-remaining : (t l : List Entry) → All P (of_key X l) → All P (of_key X (remaining t l))
-  ofKey-remaining t [] = λ a. tt
-  ofKey-remaining t (p ∷ l) =
+  pub of_key-remaining : (t l : List Entry) → All P (of_key X l) → All P (of_key X (remaining t l))
+  of_key-remaining t [] = λ a. tt
+  of_key-remaining t (p ∷ l) =
       by_test (is_promoted t p)
       (λ g. by_test (is_of X p)
-      (λ f. simp (g, f) (λ a. ofKey-remaining (t ++ (p ∷ [])) l a.1))
-      (λ f. simp (g, f) (λ a. ofKey-remaining (t ++ (p ∷ [])) l a)))
+      (λ f. simp (g, f) (λ a. of_key-remaining (t ++ (p ∷ [])) l a.1))
+      (λ f. simp (g, f) (λ a. of_key-remaining (t ++ (p ∷ [])) l a)))
       (λ g. by_test (is_of X p)
-      (λ f. simp (g, f) (λ a. (a.0, ofKey-remaining t l a.1)))
-      (λ f. simp (g, f) (λ a. ofKey-remaining t l a)))
+      (λ f. simp (g, f) (λ a. (a.0, of_key-remaining t l a.1)))
+      (λ f. simp (g, f) (λ a. of_key-remaining t l a)))
 
 -- ---- a line in rising order of a rank of its keys
 
@@ -143,11 +143,11 @@ module _ (rank : Bytes → ℕ) where
         (λ g. rw g (rising-update key (ponged now) (λ p. refl) b.replacements r))
 
     -- the new node has to rank above the others
-    pub rising-pingSent : (address : Bytes) (udp tcp : ℕ) (hash : Bytes)
+    pub rising_ping_sent : (address : Bytes) (udp tcp : ℕ) (hash : Bytes)
         → (empty (held key b) ≡ true → All (λ p. rank p.key < rank key) b.replacements)
         → Rising Below (on_ping_sent now key address udp tcp hash b).replacements
     unfolding on_ping_sent
-    rising-pingSent address udp tcp hash last =
+    rising_ping_sent address udp tcp hash last =
         by_test (empty (held key b))
         (λ g. rw g (Rising-snoc Below (new_entry now key address udp tcp hash) b.replacements (last g) r))
         (λ g. rw g (rising-update key (pinged now hash) (λ p. refl) b.replacements r))

@@ -13,8 +13,8 @@ use Rattle.bucket_model.specs.Rules.{pinged, ponged, heard, new_entry, on_ping_s
 use Rattle.bucket_model.specs.Sound.{sound}
 use Rattle.bucket_model.specs.Facts.{Every, IsContents, BucketSound}
 use Rattle.bucket_model.proofs.ByteForm.{decode_encode_bucket}
-use Rattle.bucket_model.proofs.Every.{every-pingSent, every-pong, every-heard, every-sweep}
-use Rattle.bucket_model.proofs.Exact.{sound-has_form, form_is_sound}
+use Rattle.bucket_model.proofs.Every.{every_ping_sent, every-pong, every-heard, every-sweep}
+use Rattle.bucket_model.proofs.Exact.{sound_has_form, form_is_sound}
 use Rattle.bucket_model.proofs.Sound.{IsAddress, rules-sound, sound-rules}
 
 -- ---- each rule keeps them
@@ -76,10 +76,10 @@ module _ (now : ℕ) (in-range : now < 2 ^ 64) where
       }
 
   module _ (m : Contents) (values : Every IsEntry m) where
-    pub values-pingSent : (key address : Bytes) (udp tcp : ℕ) (hash : Bytes) → length key ≡ 64 → IsAddress address → udp < 2 ^ 16
+    pub values_ping_sent : (key address : Bytes) (udp tcp : ℕ) (hash : Bytes) → length key ≡ 64 → IsAddress address → udp < 2 ^ 16
         → tcp < 2 ^ 16 → length hash ≡ 32 → Every IsEntry (on_ping_sent now key address udp tcp hash m)
-    values-pingSent key address udp tcp hash k a u t h =
-        every-pingSent IsEntry now m values key address udp tcp hash (λ _. new-value key address udp tcp hash k a u t h) (pinged-value hash h)
+    values_ping_sent key address udp tcp hash k a u t h =
+        every_ping_sent IsEntry now m values key address udp tcp hash (λ _. new-value key address udp tcp hash k a u t h) (pinged-value hash h)
 
     pub values-pong : (key : Bytes) → Every IsEntry (on_pong now key m)
     values-pong key = every-pong IsEntry now m values key ponged-value
@@ -107,6 +107,6 @@ module _ (home : Bytes → Bool) (clock : ℕ) where
   pub decoded-sound : (s : Bytes) → length s ≡ 2862 → IsBytes s → sound home clock s ≡ true
       → BucketSound home clock (decode_bucket s) × Every IsEntry (decode_bucket s)
   decoded-sound s n bs h =
-      let f = sound-has_form home clock s n bs h in
+      let f = sound_has_form home clock s n bs h in
       let back : decode_bucket s ≡ f.held = ap decode_bucket f.form ∙ decode_encode_bucket f.held f.is in
       rw back (rules-sound home clock f.held f.is.most f.is.most_waiting f.keeps, (f.is.entries, f.is.replacements))

@@ -12,7 +12,7 @@ use Rattle.lists.proofs.Laws.{by_test, nil, empty-append, select-append, select-
 use Rattle.entry.specs.declared.Entry.{Entry}
 use Rattle.bucket_model.specs.Contents.{Contents}
 use Rattle.bucket_model.specs.Rules.{is_of, of_key, to_tail, held, pinged, ponged, heard, new_entry, promoted, remaining, stays_entry, stays_replacement, takes_entry, on_ping_sent, on_pong, on_heard, on_sweep}
-use Rattle.bucket_model.proofs.Keys.{of_key-of_key, of_key-without, ofKey-map, ofKey-update, ofKey-toTail, other-without, other-map, other-update, other-toTail, promoted_or_remaining}
+use Rattle.bucket_model.proofs.Keys.{of_key-of_key, of_key-without, of_key-map, of_key-update, of_key-to_tail, other-without, other-map, other-update, other_to_tail, promoted_or_remaining}
 use Rattle.bucket_model.specs.Facts.{BucketSound}
 
 -- the entries and replacements that a bucket holds of one key
@@ -27,9 +27,9 @@ SameAs X b c = Holds X c (of_key X b.entries) (of_key X b.replacements)
 -- ---- another key's call
 
 module _ (X key : Bytes) (d : same_bytes X key ≡ false) (now : ℕ) (b : Contents) where
-  pub other-pingSent : (address : Bytes) (udp tcp : ℕ) (hash : Bytes) → SameAs X b (on_ping_sent now key address udp tcp hash b)
+  pub other_ping_sent : (address : Bytes) (udp tcp : ℕ) (hash : Bytes) → SameAs X b (on_ping_sent now key address udp tcp hash b)
   unfolding on_ping_sent
-  other-pingSent address udp tcp hash =
+  other_ping_sent address udp tcp hash =
       by_test (empty (held key b))
       (λ g. rw g (record { entries = refl; replacements = simp (select-append, d, append-nil) }))
       (λ g. rw g (record {
@@ -41,7 +41,7 @@ module _ (X key : Bytes) (d : same_bytes X key ≡ false) (now : ℕ) (b : Conte
   unfolding on_heard
   other-heard =
       record {
-        entries = other-toTail X key d (heard now) (λ p. refl) b.entries;
+        entries = other_to_tail X key d (heard now) (λ p. refl) b.entries;
         replacements = other-update X key d (heard now) (λ p. refl) b.replacements;
       }
 
@@ -52,11 +52,11 @@ module _ (X key : Bytes) (d : same_bytes X key ≡ false) (now : ℕ) (b : Conte
       (λ g. rw g (record {
         entries =
             select-append (is_of X) (to_tail key (ponged now) b.entries) (map (ponged now) (of_key key b.replacements))
-            ∙ rw (other-toTail X key d (ponged now) (λ p. refl) b.entries, other-map X key d (ponged now) (λ p. refl) b.replacements, append-nil);
+            ∙ rw (other_to_tail X key d (ponged now) (λ p. refl) b.entries, other-map X key d (ponged now) (λ p. refl) b.replacements, append-nil);
         replacements = other-without X key d b.replacements;
       }))
       (λ g. rw g (record {
-        entries = other-toTail X key d (ponged now) (λ p. refl) b.entries;
+        entries = other_to_tail X key d (ponged now) (λ p. refl) b.entries;
         replacements = other-update X key d (ponged now) (λ p. refl) b.replacements;
       }))
 
@@ -71,8 +71,8 @@ module _ (now : ℕ) (key : Bytes) (b : Contents) where
   unfolding on_heard
   own-heard =
       record {
-        entries = ofKey-toTail (heard now) (λ p. refl) key b.entries;
-        replacements = ofKey-update (heard now) (λ p. refl) key b.replacements;
+        entries = of_key-to_tail (heard now) (λ p. refl) key b.entries;
+        replacements = of_key-update (heard now) (λ p. refl) key b.replacements;
       }
 
   -- a replacement that may not take an entry stays in line
@@ -81,8 +81,8 @@ module _ (now : ℕ) (key : Bytes) (b : Contents) where
   own-pong-stays h =
       rw h
       (record {
-        entries = ofKey-toTail (ponged now) (λ p. refl) key b.entries;
-        replacements = ofKey-update (ponged now) (λ p. refl) key b.replacements;
+        entries = of_key-to_tail (ponged now) (λ p. refl) key b.entries;
+        replacements = of_key-update (ponged now) (λ p. refl) key b.replacements;
       })
 
   -- one that may takes it
@@ -95,8 +95,8 @@ module _ (now : ℕ) (key : Bytes) (b : Contents) where
         entries =
             select-append (is_of key) (to_tail key (ponged now) b.entries) (map (ponged now) (of_key key b.replacements))
             ∙ rw (
-              ofKey-toTail (ponged now) (λ p. refl) key b.entries,
-              ofKey-map (ponged now) (λ p. refl) key (of_key key b.replacements),
+              of_key-to_tail (ponged now) (λ p. refl) key b.entries,
+              of_key-map (ponged now) (λ p. refl) key (of_key key b.replacements),
               of_key-of_key key b.replacements,
             );
         replacements = of_key-without key b.replacements;
@@ -108,8 +108,8 @@ module _ (now : ℕ) (key : Bytes) (b : Contents) where
     unfolding on_ping_sent
     own-pinged g =
         rw g (record {
-          entries = ofKey-update (pinged now hash) (λ p. refl) key b.entries;
-          replacements = ofKey-update (pinged now hash) (λ p. refl) key b.replacements;
+          entries = of_key-update (pinged now hash) (λ p. refl) key b.entries;
+          replacements = of_key-update (pinged now hash) (λ p. refl) key b.replacements;
         })
 
     -- a new one joins the line
@@ -146,8 +146,8 @@ module _ (X : Bytes) (now : ℕ) (b : Contents) where
       }
 
   -- what the sweep keeps of the node in line
-  pub ofKey-kept : of_key X (kept_replacements now b) ≡ select (stays_replacement now) (of_key X b.replacements)
-  ofKey-kept = select-comm (is_of X) (stays_replacement now) b.replacements
+  pub of_key_kept : of_key X (kept_replacements now b) ≡ select (stays_replacement now) (of_key X b.replacements)
+  of_key_kept = select-comm (is_of X) (stays_replacement now) b.replacements
 
   -- a node that has an entry is not in line, and takes no other
   pub sweep-entry : (home : Bytes → Bool) (clock : ℕ) → BucketSound home clock b → 0 < length (of_key X b.entries)
@@ -158,7 +158,7 @@ module _ (X : Bytes) (now : ℕ) (b : Contents) where
       (omega (
         arith,
         promoted_or_remaining X (kept_entries now b) (kept_replacements now b),
-        ap length ofKey-kept,
+        ap length of_key_kept,
         length-select (stays_replacement now) (of_key X b.replacements),
         ok.once X,
       )) in

@@ -50,7 +50,9 @@ unfolding range_count
 count_own p l h =
     let a = p.endpoint in
     by_test (eqb a.len 4)
-    (λ t. rw (t, same_refl (part a.address 0 3)) refl)
+    (λ t.
+    let own : same_range p.endpoint p.endpoint ≡ true = rw (t, same_refl (part a.address 0 3)) refl in
+    rw own refl)
     (λ t.
     let none : length (select (λ e. same_range a e.endpoint) l) ≡ 0 =
     select-none (λ e. same_range a e.endpoint) l (All-every (λ e. same_range a e.endpoint ≡ false) (λ e. rw t refl) l) in

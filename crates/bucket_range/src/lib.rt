@@ -1,4 +1,6 @@
 // Ranges: how many entries of a list share the first three bytes of a 4-byte address, and who may take an entry beside them.
+#![tactic(auto)]
+
 ghost use Rattle.std.specs.Prelude.{◌≡◌, ◌+◌, ◌*◌, ◌≤◌, cond, not, length};
 ghost use Rattle.octets.specs.Octets.{part};
 ghost use Rattle.lists.specs.Lists.{all};

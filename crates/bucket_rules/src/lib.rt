@@ -1,4 +1,6 @@
 // The rules of one bucket by value: ping sent, pong, other packets.
+#![tactic(auto)]
+
 ghost use Rattle.std.specs.Prelude.{◌≡◌, ◌≤◌, ◌<◌, get_or, length};
 ghost use Rattle.bucket_model.specs.Rules.{on_ping_sent, on_pong, on_heard};
 ghost use Rattle.bucket.specs.Steps.{contents, Shows, InBounds};

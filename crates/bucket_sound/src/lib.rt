@@ -1,4 +1,6 @@
 // Whether a bucket's bytes are sound, tested where they lie.
+#![tactic(auto)]
+
 ghost use Rattle.std.specs.Prelude.{◌≡◌, true, not, cond, ◌&&◌, ◌+◌, ◌*◌, ◌≤◌, length, replicate};
 ghost use Rattle.octets.specs.Octets.{part, same_bytes};
 ghost use Rattle.lists.specs.Lists.{any};

@@ -1,4 +1,6 @@
 // The sweep of one bucket by value: who stays, and who takes an entry.
+#![tactic(auto)]
+
 ghost use Rattle.std.specs.Prelude.{◌≡◌, not, [], ◌≤◌, ◌<◌};
 ghost use Rattle.lists.specs.Lists.{select};
 ghost use Rattle.bucket_model.specs.Rules.{on_sweep, is_promoted};

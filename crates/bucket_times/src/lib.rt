@@ -1,4 +1,6 @@
 // What the clock decides of an entry's proof and of its ping.
+#![tactic(auto)]
+
 ghost use Rattle.std.specs.Prelude.{◌≡◌, ◌-◌};
 ghost use Rattle.bucket_model.specs.Rules.{is_proved, proof_holds, proof_expired, is_out, is_overdue};
 

@@ -1,4 +1,6 @@
 // The answer to a datagram, of its sender's bucket by value.
+#![tactic(auto)]
+
 ghost use Rattle.std.specs.Prelude.{◌≡◌};
 ghost use Rattle.octets.specs.Octets.{Bytes};
 ghost use Rattle.bucket_model.specs.Contents.{Contents};
@@ -14,7 +16,7 @@ use node::{MonotonicMillis, Node};
 use packet::{EnrRequest, EnrResponse, FindNode, Neighbors, Ping, Pong};
 
 // What became of the sender of an accepted pong.
-#[derive(Drop)]
+#[derive(Clone, Copy)]
 pub enum Standing {
     // It was an entry, and is now at the tail.
     Tail,
@@ -27,7 +29,7 @@ pub enum Standing {
 }
 
 // The answer to a datagram.
-#[derive(Drop)]
+#[derive(Clone, Copy)]
 pub enum Outcome {
     // The answer number, from 1 to 15.
     Refused(u8),
@@ -41,7 +43,7 @@ pub enum Outcome {
 }
 
 // `head` is the node at the head of the bucket where the sender of a pong waits for a free entry, else a node of zeros.
-#[derive(Drop)]
+#[derive(Clone, Copy)]
 pub struct Received {
     pub outcome: Outcome,
     pub head: Node,

@@ -13,16 +13,16 @@ use Rattle.call_burst_lists.proofs.Sums.{rest_next}
 use Rattle.call_burst_step.specs.Datagram.{call_at}
 use Rattle.call_burst_step.specs.Steps.{answer_by, bytes_by}
 use Rattle.call_history.specs.Model.{Call}
-use Rattle.call_history.specs.Chain.{answersOn, bytesAfterAll}
+use Rattle.call_history.specs.Chain.{answers_on, bytes_after_all}
 use Rattle.call_burst.specs.Burst.{burst_number, calls_from, calls_of, BurstKept, LowBurstKept}
 use Rattle.call_burst.specs.Steps.{table_by, numbers_by, list_by}
 
 module _ (low : Bool) where
-  abbrev pub tableLast : Bytes → List Call → Bytes
-  tableLast = bytesAfterAll (answer_by low) (bytes_by low)
+  abbrev pub table_last : Bytes → List Call → Bytes
+  table_last = bytes_after_all (answer_by low) (bytes_by low)
 
   abbrev pub told : Bytes → List Call → List ℕ
-  told = answersOn (answer_by low) (bytes_by low)
+  told = answers_on (answer_by low) (bytes_by low)
 
 -- the datagrams from i on
 abbrev pub rest : Burst → ℕ → ℕ → List Call
@@ -49,7 +49,7 @@ pub record Going (low : Bool) (s : Bytes) (b : Burst) (at i : ℕ) (t ns : List 
   pub upto : i ≤ length b.lengths
   pub place : at + sum (drop i b.lengths) ≡ length b.buffer
   pub list : length ns ≡ length b.lengths
-  pub table : tableLast low t (rest b i at) ≡ tableLast low s (whole b)
+  pub table : table_last low t (rest b i at) ≡ table_last low s (whole b)
   pub numbers : take i ns ++ told low t (rest b i at) ≡ told low s (whole b)
 
 module _ (low : Bool) (s : Bytes) (b : Burst) where
@@ -70,7 +70,7 @@ module _ (low : Bool) (s : Bytes) (b : Burst) where
         upto = omega arith;
         place = omega (arith, g.place, rest_next b.lengths i h);
         list = ap length e' ∙ length-set ns i (answer_by low t c) ∙ g.list;
-        table = ap (λ (x : Bytes). tableLast low x more) e ∙ sym (ap (tableLast low t) (rest_first b i at h)) ∙ g.table;
+        table = ap (λ (x : Bytes). table_last low x more) e ∙ sym (ap (table_last low t) (rest_first b i at h)) ∙ g.table;
         numbers =
             rw (one, e)
             (append_assoc (take i ns) (answer_by low t c ∷ []) (told low (bytes_by low t c) more)
@@ -78,8 +78,8 @@ module _ (low : Bool) (s : Bytes) (b : Burst) where
       }
 
   module _ (at i : ℕ) (t ns : List ℕ) (g : Going low s b at i t ns) (end : i ≡ length b.lengths) where
-    pub table-end : t ≡ tableLast low s (whole b)
-    table-end = sym (ap (tableLast low t) (rest_none b i at end)) ∙ g.table
+    pub table-end : t ≡ table_last low s (whole b)
+    table-end = sym (ap (table_last low t) (rest_none b i at end)) ∙ g.table
 
     pub numbers-end : ns ≡ told low s (whole b)
     numbers-end =
@@ -90,7 +90,7 @@ module _ (low : Bool) (s : Bytes) (b : Burst) where
 
 -- what a burst leaves, whole or not
 module _ (low : Bool) (s : Bytes) (b : Burst) (list : List ℕ) where
-  pub handled : {w : Bool} (t ns : List ℕ) → w ≡ is_whole b (length list) → w ≡ true → t ≡ tableLast low s (whole b) → ns ≡ told low s (whole b)
+  pub handled : {w : Bool} (t ns : List ℕ) → w ≡ is_whole b (length list) → w ≡ true → t ≡ table_last low s (whole b) → ns ≡ told low s (whole b)
       → (0 ≡ burst_number b (length list)) × ((t ≡ table_by low s b (length list)) × (ns ≡ list_by low s b list))
   unfolding calls_of
   handled t ns is h e e' = rw (← is, h) (refl, (e, e'))

@@ -4,8 +4,8 @@ use Rattle.octets.specs.Octets.{Bytes}
 use Rattle.call_burst_lists.specs.Lists.{Burst, is_whole}
 use Rattle.call_burst_step.specs.Datagram.{call_at}
 use Rattle.call_history.specs.Model.{Call}
-use Rattle.call_history.specs.Chain.{answersOn, bytesAfterAll}
-use Rattle.call_model.specs.Calls.{answerOn, bytesAfter}
+use Rattle.call_history.specs.Chain.{answers_on, bytes_after_all}
+use Rattle.call_model.specs.Calls.{answer_on, bytes_after}
 use Rattle.call_model.specs.Reading.{reading}
 use Rattle.call_low.specs.Got.{answer_low, bytes_low}
 
@@ -24,10 +24,10 @@ calls_of b room = cond (is_whole b room) (calls_from b 0 0 (length b.lengths)) [
 
 -- "Table, tally and numbers are those of handing them over one at a time, in order": on a table's bytes
 abbrev pub numbers_of : Bytes → Burst → ℕ → List ℕ
-numbers_of s b room = answersOn (answerOn reading) (bytesAfter reading) s (calls_of b room)
+numbers_of s b room = answers_on (answer_on reading) (bytes_after reading) s (calls_of b room)
 
 abbrev pub table_after : Bytes → Burst → ℕ → Bytes
-table_after s b room = bytesAfterAll (answerOn reading) (bytesAfter reading) s (calls_of b room)
+table_after s b room = bytes_after_all (answer_on reading) (bytes_after reading) s (calls_of b room)
 
 -- "fills a lent list of answer numbers"; a refused burst leaves it
 abbrev pub list_after : Bytes → Burst → List ℕ → List ℕ
@@ -36,10 +36,10 @@ list_after s b list = cond (is_whole b (length list)) (numbers_of s b (length li
 -- ---- with readings of 32 bits for milliseconds (document 02, C-20): each datagram by the table's clock at its turn
 
 abbrev pub low_numbers_of : Bytes → Burst → ℕ → List ℕ
-low_numbers_of s b room = answersOn answer_low bytes_low s (calls_of b room)
+low_numbers_of s b room = answers_on answer_low bytes_low s (calls_of b room)
 
 abbrev pub low_table_after : Bytes → Burst → ℕ → Bytes
-low_table_after s b room = bytesAfterAll answer_low bytes_low s (calls_of b room)
+low_table_after s b room = bytes_after_all answer_low bytes_low s (calls_of b room)
 
 abbrev pub low_list_after : Bytes → Burst → List ℕ → List ℕ
 low_list_after s b list = cond (is_whole b (length list)) (low_numbers_of s b (length list)) list

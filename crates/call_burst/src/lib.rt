@@ -1,9 +1,11 @@
 // A burst: up to 32 datagrams on a table in lent bytes, one after the other. Their numbers go into a lent list.
+#![tactic(auto)]
+
 ghost use Rattle.std.specs.Prelude.{◌≡◌, true, length};
 ghost use Rattle.call_burst_lists.specs.Lists.{burst_of, is_whole};
 ghost use Rattle.call_burst_lists.specs.Times.{lent_by};
 ghost use Rattle.call_burst_step.specs.Steps.{answer_by, bytes_by};
-ghost use Rattle.call_history.specs.Chain.{answersOn, bytesAfterAll};
+ghost use Rattle.call_history.specs.Chain.{answers_on, bytes_after_all};
 ghost use Rattle.call_burst.specs.Burst.{burst_number, calls_from, table_after, list_after, low_table_after, low_list_after};
 ghost use Rattle.call_burst.specs.Steps.{table_by, list_by};
 
@@ -22,8 +24,8 @@ fn hand_over_all(
     low: bool,
 )
     requires { is_whole (lent_by low buffer.now lengths.now signers.now addresses.now ports.now millis.now readings.now unix.now) (length numbers.old) ≡ true }
-    ensures table_after { table.new ≡ bytesAfterAll (answer_by low) (bytes_by low) table.old (calls_from (lent_by low buffer.now lengths.now signers.now addresses.now ports.now millis.now readings.now unix.now) 0 0 (length lengths.now)) }
-    ensures numbers_after { numbers.new ≡ answersOn (answer_by low) (bytes_by low) table.old (calls_from (lent_by low buffer.now lengths.now signers.now addresses.now ports.now millis.now readings.now unix.now) 0 0 (length lengths.now)) }
+    ensures table_after { table.new ≡ bytes_after_all (answer_by low) (bytes_by low) table.old (calls_from (lent_by low buffer.now lengths.now signers.now addresses.now ports.now millis.now readings.now unix.now) 0 0 (length lengths.now)) }
+    ensures numbers_after { numbers.new ≡ answers_on (answer_by low) (bytes_by low) table.old (calls_from (lent_by low buffer.now lengths.now signers.now addresses.now ports.now millis.now readings.now unix.now) 0 0 (length lengths.now)) }
 {
     let mut at = 0;
     let mut i = 0;

@@ -1,4 +1,6 @@
 // The lists of a burst: whether they fit together, and what they have for one datagram.
+#![tactic(auto)]
+
 ghost use Rattle.std.specs.Prelude.{◌≡◌, ◌+◌, ◌*◌, ◌≤◌, ◌<◌, eqb, length};
 ghost use Rattle.octets.specs.Octets.{part};
 ghost use Rattle.call_burst_lists.specs.Lists.{sum, is_whole, signer_in, address_in};

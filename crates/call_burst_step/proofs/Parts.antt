@@ -10,7 +10,7 @@ use Rattle.clock32.specs.declared.LowMillis.{LowMillis}
 use Rattle.call_burst_lists.specs.Lists.{Burst, signer_in, address_in}
 use Rattle.call_burst_lists.specs.Times.{times_by}
 use Rattle.call_history.specs.Model.{Call, datagram}
-use Rattle.call_model.specs.Calls.{bytesAfter}
+use Rattle.call_model.specs.Calls.{bytes_after}
 use Rattle.call_model.specs.Reading.{reading}
 use Rattle.call_answer.specs.declared.Received.{Received}
 use Rattle.call_answer.specs.Answer.{number_of}
@@ -41,7 +41,7 @@ module _ (s : Bytes) (time : Time) (unix : ℕ) (a : Bytes) (port : ℕ) (key g 
   asked = datagram (number_in time) unix a port key g
 
   pub at-full : {t : MonotonicMillis} {r : Received} {n : ℕ} {s' : Bytes} → time ≡ Full t → r ≡ received s t.0 unix a port key g → n ≡ number_of r
-      → s' ≡ bytesAfter reading s (datagram t.0 unix a port key g) → (n ≡ answer_by (is_reading time) s asked) × (s' ≡ bytes_by (is_reading time) s asked)
+      → s' ≡ bytes_after reading s (datagram t.0 unix a port key g) → (n ≡ answer_by (is_reading time) s asked) × (s' ≡ bytes_by (is_reading time) s asked)
   at-full {t = t} is e e' e'' = rw is (e' ∙ ap number_of e ∙ answer-number s t.0 (record { 0 = unix }) a port key g, e'')
 
   pub at-reading : {t : LowMillis} {r : Received} {n : ℕ} {s' : Bytes} → time ≡ Reading t → r ≡ received_low s t.0 unix a port key g → n ≡ number_of r

@@ -2,7 +2,7 @@
 use Rattle.std.specs.Prelude.{ℕ, Bool, true, false, List, get_or}
 use Rattle.octets.specs.Octets.{Bytes}
 use Rattle.call_history.specs.Model.{Call}
-use Rattle.call_model.specs.Calls.{answerOn, bytesAfter}
+use Rattle.call_model.specs.Calls.{answer_on, bytes_after}
 use Rattle.call_model.specs.Reading.{reading}
 use Rattle.call_low.specs.Got.{answer_low, bytes_low}
 use Rattle.call_burst_step.specs.declared.Time.{Time}
@@ -10,11 +10,11 @@ use Rattle.call_burst_step.specs.declared.Time.TheVariants.{Full, Reading}
 
 abbrev pub answer_by : Bool → Bytes → Call → ℕ
 answer_by true = answer_low
-answer_by false = answerOn reading
+answer_by false = answer_on reading
 
 abbrev pub bytes_by : Bool → Bytes → Call → Bytes
 bytes_by true = bytes_low
-bytes_by false = bytesAfter reading
+bytes_by false = bytes_after reading
 
 -- one datagram's milliseconds
 abbrev pub time_at : Bool → List ℕ → List ℕ → ℕ → Time

@@ -1,4 +1,6 @@
 // One datagram of a burst: handed over at its milliseconds, and its number written into a lent list.
+#![tactic(auto)]
+
 ghost use Rattle.std.specs.Prelude.{◌≡◌, ◌+◌, ◌*◌, ◌≤◌, ◌<◌, length, get_or, set};
 ghost use Rattle.call_burst_lists.specs.Times.{times_by, lent_by};
 ghost use Rattle.call_history.specs.Model as model;
@@ -9,7 +11,7 @@ use clock32::LowMillis;
 use node::{MonotonicMillis, UnixSeconds};
 
 // The milliseconds of a datagram: full, or a reading of 32 bits.
-#[derive(Drop)]
+#[derive(Clone, Copy)]
 pub enum Time {
     Full(MonotonicMillis),
     Reading(LowMillis),

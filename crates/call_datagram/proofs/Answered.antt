@@ -11,7 +11,7 @@ use Rattle.packet.specs.declared.Packet.{Packet}
 use Rattle.packet.specs.declared.Packet.TheVariants as packet
 use Rattle.call_history.specs.Model.{datagram}
 use Rattle.call_model.specs.Reading.{reading}
-use Rattle.call_model.specs.Calls.{bucketFor, answerOn}
+use Rattle.call_model.specs.Calls.{bucket_for, answer_on}
 use Rattle.call_answer.specs.Answer.{accepted, number_of}
 use Rattle.call_datagram.specs.Received.{received}
 use Rattle.call_datagram.proofs.Datagram.{front-passed, whole}
@@ -25,13 +25,13 @@ accepted-number now address udp key (packet.EnrRequest p) b = refl
 accepted-number now address udp key (packet.EnrResponse p) b = refl
 
 pub answer-number : (s : Bytes) (now : ℕ) (unix : UnixSeconds) (address : Bytes) (udp : ℕ) (key g : Bytes)
-    → number_of (received s now unix.0 address udp key g) ≡ answerOn reading s (datagram now unix.0 address udp key g)
+    → number_of (received s now unix.0 address udp key g) ≡ answer_on reading s (datagram now unix.0 address udp key g)
 unfolding received
 answer-number s now unix address udp key g =
-    let n : ℕ = answerOn reading s (datagram now unix.0 address udp key g) in
+    let n : ℕ = answer_on reading s (datagram now unix.0 address udp key g) in
     by_test (eqb n 0)
     (λ z.
     let zero : n ≡ 0 = eqb-true n 0 z in
     let w = whole s now unix address key g udp (front-passed s now unix address key g udp zero) in
-    rw (z, w.1) (accepted-number now address udp key w.0 (bucketFor reading s key) ∙ sym zero))
+    rw (z, w.1) (accepted-number now address udp key w.0 (bucket_for reading s key) ∙ sym zero))
     (λ z. rw z refl)

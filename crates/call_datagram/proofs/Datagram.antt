@@ -18,8 +18,8 @@ use Rattle.packet.specs.declared.Parsed.{Parsed}
 use Rattle.packet.specs.declared.Parsed.TheVariants as parsed
 use Rattle.packet_envelope.specs.Envelope.{is_sized, hash_matches}
 use Rattle.packet_datagram.specs.Datagram.{read_at}
-use Rattle.call_history.specs.Model.{Reading, is_refused, Call, datagram, slot, packetRefusals, datagramRefusals}
-use Rattle.call_model.specs.Calls.{envOf, bucketFor, answerOn, bytesAfter}
+use Rattle.call_history.specs.Model.{Reading, is_refused, Call, datagram, slot, packet_refusals, datagram_refusals}
+use Rattle.call_model.specs.Calls.{env_of, bucket_for, answer_on, bytes_after}
 use Rattle.call_model.specs.Reading.{packet_reading, parsed_reading, reading}
 use Rattle.call_touched.specs.Steps.{SoundAt}
 use Rattle.call_touched.proofs.Touch.{sound-at}
@@ -73,17 +73,17 @@ module _ (s : Bytes) (now : ℕ) (unix : UnixSeconds) (address key g : Bytes) (u
   front = datagram_front s now address key read
 
   abbrev rest : Reading → List (Bool × ℕ)
-  rest r = packetRefusals (envOf reading s) now address udp key r (bucketFor reading s key)
+  rest r = packet_refusals (env_of reading s) now address udp key r (bucket_for reading s key)
 
-  answer-is : answerOn reading s call ≡ cond (eqb (first front) 0) (first (rest read)) (first front)
-  unfolding answerOn datagramRefusals
+  answer-is : answer_on reading s call ≡ cond (eqb (first front) 0) (first (rest read)) (first front)
+  unfolding answer_on datagram_refusals
   answer-is = first-append front (rest read) refl
 
-  pub front-passed : answerOn reading s call ≡ 0 → first front ≡ 0
+  pub front-passed : answer_on reading s call ≡ 0 → first front ≡ 0
   front-passed h =
       by_test (eqb (first front) 0)
       (λ z. eqb-true (first front) 0 z)
-      (λ z. let is : answerOn reading s call ≡ first front = answer-is ∙ rw z refl in sym is ∙ h)
+      (λ z. let is : answer_on reading s call ≡ first front = answer-is ∙ rw z refl in sym is ∙ h)
 
   -- ---- passed
 
@@ -109,7 +109,7 @@ module _ (s : Bytes) (now : ℕ) (unix : UnixSeconds) (address key g : Bytes) (u
         is_packet g (read_at g unix)
         (ap (is_refused 8) is ∙ faults.0, (ap (is_refused 9) is ∙ faults.1.0, (ap (is_refused 10) is ∙ faults.1.1.0, ap (is_refused 11) is ∙ faults.1.1.1.0)))
 
-    passed-sound : SoundAt s (slot (envOf reading s) key)
+    passed-sound : SoundAt s (slot (env_of reading s) key)
     passed-sound =
         let keyed = facts.1.1.1.1 in
         sound-at s key facts.0 (not-false _ keyed.0) keyed.1.1.0 (not-false _ keyed.1.1.1.1.1.1.1.0)
@@ -121,27 +121,27 @@ module _ (s : Bytes) (now : ℕ) (unix : UnixSeconds) (address key g : Bytes) (u
       pub packet-read : read ≡ packet_reading g p
       packet-read = reads ∙ ap (parsed_reading g) is
 
-      passed-number : answerOn reading s call ≡ first (rest (packet_reading g p))
+      passed-number : answer_on reading s call ≡ first (rest (packet_reading g p))
       passed-number = answer-is ∙ rw (eq-eqb (first front) 0 none) (ap (λ (r : Reading). first (rest r)) packet-read)
 
-      answered : delivered s (slot (envOf reading s) key) now address udp key g p ≡ received s now unix.0 address udp key g
+      answered : delivered s (slot (env_of reading s) key) now address udp key g p ≡ received s now unix.0 address udp key g
       unfolding delivered received
       answered = sym (rw (passed-number, is) refl)
 
-      left : after_delivery s (slot (envOf reading s) key) now address udp key g p ≡ bytesAfter reading s call
-      unfolding after_delivery bytesAfter
+      left : after_delivery s (slot (env_of reading s) key) now address udp key g p ≡ bytes_after reading s call
+      unfolding after_delivery bytes_after
       left = sym (rw (passed-number, packet-read) refl)
 
   module _ {i : ℕ} {p : Packet} (e : judged s now unix address key g ≡ Passed i p) where
-    here : (first front ≡ 0) × ((slot (envOf reading s) key ≡ i) × (read_at g unix ≡ parsed.Packet p))
+    here : (first front ≡ 0) × ((slot (env_of reading s) key ≡ i) × (read_at g unix ≡ parsed.Packet p))
     unfolding judged
-    here = has_passed (first front) (slot (envOf reading s) key) (read_at g unix) i p e
+    here = has_passed (first front) (slot (env_of reading s) key) (read_at g unix) i p e
 
     pub ready : SoundAt s i × (clock_of s ≤ now)
     ready = (rw here.1.0 at (passed-sound here.0), passed-in-time here.0)
 
     pub done : {r : Received} {t : Bytes} → r ≡ delivered s i now address udp key g p → t ≡ after_delivery s i now address udp key g p
-        → (r ≡ received s now unix.0 address udp key g) × (t ≡ bytesAfter reading s call)
+        → (r ≡ received s now unix.0 address udp key g) × (t ≡ bytes_after reading s call)
     done er et = (
       er ∙ ap (λ (x : ℕ). delivered s x now address udp key g p) (sym here.1.0) ∙ answered here.0 here.1.1,
       et ∙ ap (λ (x : ℕ). after_delivery s x now address udp key g p) (sym here.1.0) ∙ left here.0 here.1.1,
@@ -155,15 +155,15 @@ module _ (s : Bytes) (now : ℕ) (unix : UnixSeconds) (address key g : Bytes) (u
       by_test (eqb (first front) 0)
       (λ z.
       let w = whole (eqb-true (first front) 0 z) in
-      let passed : Passed (slot (envOf reading s) key) w.0 ≡ Refused n = rw (z, w.1) at e in
+      let passed : Passed (slot (env_of reading s) key) w.0 ≡ Refused n = rw (z, w.1) at e in
       absurd (let o : ◌≡◌ {A = ℕ} 0 1 = cc in omega arith))
       (λ z. let same : Refused (first front) ≡ Refused n = rw z at e in (z, cc))
 
   pub refused-before : {n : ℕ} {r : Received} → judged s now unix address key g ≡ Refused n → r ≡ refusal n
-      → (r ≡ received s now unix.0 address udp key g) × (s ≡ bytesAfter reading s call)
-  unfolding received bytesAfter
+      → (r ≡ received s now unix.0 address udp key g) × (s ≡ bytes_after reading s call)
+  unfolding received bytes_after
   refused-before {n} e er =
       let no = not-passed e in
-      let answer : answerOn reading s call ≡ n = answer-is ∙ rw no.0 no.1 in
-      let some : eqb (answerOn reading s call) 0 ≡ false = rw (answer, sym no.1) no.0 in
+      let answer : answer_on reading s call ≡ n = answer-is ∙ rw no.0 no.1 in
+      let some : eqb (answer_on reading s call) 0 ≡ false = rw (answer, sym no.1) no.0 in
       (er ∙ ap refusal (sym answer) ∙ sym (rw some refl), sym (rw some refl))

@@ -12,7 +12,7 @@ use Rattle.table_model.specs.Layout.{bucket_at, own_of, clock_of, count_of, numb
 use Rattle.packet.specs.declared.Packet.{Packet}
 use Rattle.call_history.specs.Model.{on_datagram, Reading}
 use Rattle.call_history.proofs.Step.{by_datagram}
-use Rattle.call_model.specs.Calls.{envOf}
+use Rattle.call_model.specs.Calls.{env_of}
 use Rattle.call_model.specs.Reading.{packet_reading, reading}
 use Rattle.bucket.specs.declared.Bucket.{Bucket}
 use Rattle.bucket.specs.Steps.{Shows, InBounds}
@@ -25,7 +25,7 @@ use Rattle.call_packet.specs.Steps.{RepliesTo}
 use Rattle.call_datagram.specs.Steps.{packet_number, delivered, after_delivery}
 
 module _ (s : Bytes) (slot now : ℕ) (address : Bytes) (udp : ℕ) (key g : Bytes) (p : Packet) {reply : Reply}
-    (h : RepliesTo (envOf reading s) now address udp key g p (bucket_at s slot) reply) where
+    (h : RepliesTo (env_of reading s) now address udp key g p (bucket_at s slot) reply) where
   pub replied : reply.answer ≡ delivered s slot now address udp key g p
   unfolding delivered
   replied = h.answer ∙ ap (λ (n : ℕ). unless_refused n (accepted now address udp key p (bucket_at s slot))) h.number

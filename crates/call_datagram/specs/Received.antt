@@ -6,7 +6,7 @@ use Rattle.packet.specs.declared.Parsed.{Parsed}
 use Rattle.packet.specs.declared.Parsed.TheVariants as parsed
 use Rattle.packet_datagram.specs.Datagram.{read_at}
 use Rattle.call_history.specs.Model.{datagram}
-use Rattle.call_model.specs.Calls.{bucketFor, answerOn}
+use Rattle.call_model.specs.Calls.{bucket_for, answer_on}
 use Rattle.call_model.specs.Reading.{reading}
 use Rattle.call_answer.specs.declared.Received.{Received}
 use Rattle.call_answer.specs.Answer.{refusal, accepted, unless_refused}
@@ -19,5 +19,5 @@ answer_to now address udp key (parsed.Refused n) b = refusal n
 -- the answer to a datagram on a table's bytes
 unfoldable pub received : Bytes → ℕ → ℕ → Bytes → ℕ → Bytes → Bytes → Received
 received s now unix address udp key g =
-    unless_refused (answerOn reading s (datagram now unix address udp key g))
-    (answer_to now address udp key (read_at g (record { 0 = unix })) (bucketFor reading s key))
+    unless_refused (answer_on reading s (datagram now unix address udp key g))
+    (answer_to now address udp key (read_at g (record { 0 = unix })) (bucket_for reading s key))

@@ -1,10 +1,12 @@
 // The datagram call on a table in lent bytes, for any bytes.
+#![tactic(auto)]
+
 ghost use Rattle.std.specs.Prelude.{◌≡◌, true, ◌≤◌};
 ghost use Rattle.table_model.specs.Layout.{clock_of};
 ghost use Rattle.call_datagram.specs.Steps.{delivered, after_delivery};
 ghost use Rattle.call_history.specs.Model as model;
 ghost use Rattle.call_model.specs.Reading.{reading};
-ghost use Rattle.call_model.specs.Calls.{bytesAfter};
+ghost use Rattle.call_model.specs.Calls.{bytes_after};
 ghost use Rattle.call_model.specs.IfAny.{sound_if_any};
 ghost use Rattle.call_touched.specs.Steps.{reached, SoundAt};
 ghost use Rattle.call_answer.specs.Answer.{plain};
@@ -56,7 +58,7 @@ fn datagram_at(
 ) -> Received
     requires { reach ≡ reached table.old signer.now }
     ensures value { result ≡ received table.old clock.0 unix.0 address.now port signer.now datagram.now }
-    ensures table_after { table.new ≡ bytesAfter reading table.old (model.datagram clock.0 unix.0 address.now port signer.now datagram.now) }
+    ensures table_after { table.new ≡ bytes_after reading table.old (model.datagram clock.0 unix.0 address.now port signer.now datagram.now) }
 {
     match call_judge::judge(table, reach, clock, unix, address, datagram) {
         Judged::Refused(n) => call_answer::plain(Outcome::Refused(n)),
@@ -77,7 +79,7 @@ pub fn datagram_on(
     datagram: &[u8],
 ) -> Received
     ensures value { result ≡ received table.old clock.0 unix.0 address.now port signer.now datagram.now }
-    ensures table_after { table.new ≡ bytesAfter reading table.old (model.datagram clock.0 unix.0 address.now port signer.now datagram.now) }
+    ensures table_after { table.new ≡ bytes_after reading table.old (model.datagram clock.0 unix.0 address.now port signer.now datagram.now) }
 {
     let reach = call_touched::reached_by(table, signer);
     datagram_at(table, reach, clock, unix, address, port, signer, datagram)
@@ -95,7 +97,7 @@ pub fn datagram_on_sound(
 ) -> Received
     requires { sound_if_any table.old ≡ true }
     ensures value { result ≡ received table.old clock.0 unix.0 address.now port signer.now datagram.now }
-    ensures table_after { table.new ≡ bytesAfter reading table.old (model.datagram clock.0 unix.0 address.now port signer.now datagram.now) }
+    ensures table_after { table.new ≡ bytes_after reading table.old (model.datagram clock.0 unix.0 address.now port signer.now datagram.now) }
 {
     let reach = call_touched::reached_in(table, signer);
     datagram_at(table, reach, clock, unix, address, port, signer, datagram)

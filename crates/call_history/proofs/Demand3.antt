@@ -4,7 +4,7 @@ use mathlib.Core.Logic.{⊎_elim, inl, inr}
 use native.Mathlib.Omega.{arith}
 use Rattle.octets.specs.Octets.{Bytes}
 use Rattle.bucket_model.proofs.Ranges.{ranges_bounded}
-use Rattle.call_history.specs.Model.{Env, Lawful, Call, next, slot, bucket_at, bucketOf, Run, start, advance, run_from, run}
+use Rattle.call_history.specs.Model.{Env, Lawful, Call, next, slot, bucket_at, bucket_of, Run, start, advance, run_from, run}
 use Rattle.call_history.specs.Words.{ProvedReplacement}
 use Rattle.call_history.specs.Demand3.{StayLasts, InOrder, EntriesInOrder, TakesEntry, InTurn, Demand3}
 use Rattle.call_history.proofs.Step.{fresh-bucket}
@@ -23,7 +23,7 @@ module _ (e : Env) (law : Lawful e) where
   -- what every call keeps
   record Kept (r : Run e) : Type 0 where
     ok : TableSound e r.table
-    known : (X : Bytes) → KnownIn e X r.log (bucketOf e r.table X)
+    known : (X : Bytes) → KnownIn e X r.log (bucket_of e r.table X)
     in_order : InOrder e r
     entries-in-order : EntriesInOrder e r
     lasts : StayLasts e r

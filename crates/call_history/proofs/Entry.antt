@@ -18,10 +18,10 @@ use Rattle.entry.specs.declared.PingState.TheVariants.{Quiet, Out}
 use Rattle.bucket_model.specs.Contents.{Contents}
 use Rattle.bucket_model.specs.Rules.{takes_entry, ping_timeout, millis, of_key, is_of, held, is_proved, is_overdue, pinged, ponged, heard, stays_entry, on_ping_sent, on_pong, on_heard}
 use Rattle.bucket_model.proofs.View.{Mapped, own-heard, own-pong-stays, own-pong-takes, own-pinged, sweep-entry}
-use Rattle.call_history.specs.Model.{Env, Reading, Call, datagram, ping_sent, sweep, closest, unclocked, Table, slot, home_at, bucketOf, Accepted, on_datagram, next, Run}
+use Rattle.call_history.specs.Model.{Env, Reading, Call, datagram, ping_sent, sweep, closest, unclocked, Table, slot, home_at, bucket_of, Accepted, on_datagram, next, Run}
 use Rattle.call_history.specs.Words.{entry_of, HasEntry, AcceptedSweep, OpenPing}
 use Rattle.call_history.specs.Demand3.{LosesEntry}
-use Rattle.call_history.proofs.Step.{by_datagram, byAnswer, swept_bucket}
+use Rattle.call_history.proofs.Step.{by_datagram, by_answer, swept_bucket}
 use Rattle.call_history.proofs.Sound.{TableSound}
 use Rattle.call_history.proofs.View as View
 use Rattle.call_history.proofs.Log.{Known, KnownIn}
@@ -32,9 +32,9 @@ module _ (now : ℕ) (key : Bytes) (b : Contents) where
   pub count-mapped : (f : Entry → Entry) (c : Contents) → Mapped now key b f c → length (of_key key c.entries) ≡ length (of_key key b.entries)
   count-mapped f c h = rw h.entries (simp length-map)
 
-  pub pingSent-keeps : (address : Bytes) (udp tcp : ℕ) (hash : Bytes)
+  pub ping_sent_keeps : (address : Bytes) (udp tcp : ℕ) (hash : Bytes)
       → empty (held key b) ≡ false → length (of_key key (on_ping_sent now key address udp tcp hash b).entries) ≡ length (of_key key b.entries)
-  pingSent-keeps address udp tcp hash g =
+  ping_sent_keeps address udp tcp hash g =
       count-mapped (pinged now hash) (on_ping_sent now key address udp tcp hash b) (own-pinged now key b address udp tcp hash g)
 
   module _ (has : 0 < length (of_key key b.entries)) where
@@ -47,8 +47,8 @@ module _ (now : ℕ) (key : Bytes) (b : Contents) where
         (λ g. absurd (omega (arith, (empty-append (of_key key b.entries) (of_key key b.replacements) g).0)))
         (λ g. g)
 
-    pub pingSent-has : (address : Bytes) (udp tcp : ℕ) (hash : Bytes) → Has (on_ping_sent now key address udp tcp hash b)
-    pingSent-has address udp tcp hash = omega (arith, pingSent-keeps address udp tcp hash is_held)
+    pub ping_sent_has : (address : Bytes) (udp tcp : ℕ) (hash : Bytes) → Has (on_ping_sent now key address udp tcp hash b)
+    ping_sent_has address udp tcp hash = omega (arith, ping_sent_keeps address udp tcp hash is_held)
 
     pong-has : Has (on_pong now key b)
     pong-has =
@@ -82,32 +82,32 @@ module _ (e : Env) (s : Table) (ok : TableSound e s) (X : Bytes) (has : HasEntry
       let own : HasEntry e key s = rw (same_eq X key h) at has in
       rw (same_eq X key h)
       (View.own-datagram e s ok.sized (λ b. 0 < length (of_key key b.entries)) now unix address udp key bytes
-      (λ _. datagram-has now key (bucketOf e s key) own address udp (e.read bytes unix)) (λ _. own)))
+      (λ _. datagram-has now key (bucket_of e s key) own address udp (e.read bytes unix)) (λ _. own)))
       (λ h. rw (View.other-datagram e s ok.sized X key h now unix address udp bytes).entries has))
   keeps_entry (ping_sent now key address udp tcp hash) =
       inl (by_test (same_bytes X key)
       (λ h.
       let own : HasEntry e key s = rw (same_eq X key h) at has in
       rw (same_eq X key h)
-      (View.own-pingSent e s ok.sized (λ b. 0 < length (of_key key b.entries)) now key address udp tcp hash
-      (λ _. pingSent-has now key (bucketOf e s key) own address udp tcp hash) (λ _. own)))
-      (λ h. rw (View.other-pingSent e s ok.sized X key h now address udp tcp hash).entries has))
+      (View.own_ping_sent e s ok.sized (λ b. 0 < length (of_key key b.entries)) now key address udp tcp hash
+      (λ _. ping_sent_has now key (bucket_of e s key) own address udp tcp hash) (λ _. own)))
+      (λ h. rw (View.other_ping_sent e s ok.sized X key h now address udp tcp hash).entries has))
   keeps_entry (sweep now) =
-      byAnswer e (λ s'. HasEntry e X s' ⊎ ((t : ℕ) × AcceptedSweep e s (sweep now) t)) s (sweep now)
+      by_answer e (λ s'. HasEntry e X s' ⊎ ((t : ℕ) × AcceptedSweep e s (sweep now) t)) s (sweep now)
       (λ a. inr (now, (refl, a)))
       (λ _. inl has)
   keeps_entry (closest target room) =
-      inl (byAnswer e (λ s'. HasEntry e X s') s (closest target room) (λ _. has) (λ _. has))
+      inl (by_answer e (λ s'. HasEntry e X s') s (closest target room) (λ _. has) (λ _. has))
   keeps_entry (unclocked c) = inl has
 
   -- what an accepted sweep leaves of the entry
   pub swept-entry : (now : ℕ) → Accepted e s (sweep now) → entry_of e X (next e s (sweep now)) ≡ select (stays_entry now) (entry_of e X s)
   swept-entry now a =
-      byAnswer e (λ s'. entry_of e X s' ≡ select (stays_entry now) (entry_of e X s)) s (sweep now)
-      (λ _. rw (swept_bucket e s now (slot e X)) (sweep-entry X now (bucketOf e s X) (home_at e (slot e X)) s.clock (ok.each (slot e X)) has))
+      by_answer e (λ s'. entry_of e X s' ≡ select (stays_entry now) (entry_of e X s)) s (sweep now)
+      (λ _. rw (swept_bucket e s now (slot e X)) (sweep-entry X now (bucket_of e s X) (home_at e (slot e X)) s.clock (ok.each (slot e X)) has))
       (λ rejected. absurd (rejected a))
 
-module _ (e : Env) (r : Run e) (ok : TableSound e r.table) (known : (X : Bytes) → KnownIn e X r.log (bucketOf e r.table X)) where
+module _ (e : Env) (r : Run e) (ok : TableSound e r.table) (known : (X : Bytes) → KnownIn e X r.log (bucket_of e r.table X)) where
   module _ (X : Bytes) (has : HasEntry e X r.table) (t : ℕ) (a : Accepted e r.table (sweep t)) where
     taken-overdue : (HasEntry e X (next e r.table (sweep t)) → ⊥) → (t₀ : ℕ) × OpenPing e X t₀ r.log × (t₀ + ping_timeout < t)
     taken-overdue gone =
@@ -124,7 +124,7 @@ module _ (e : Env) (r : Run e) (ok : TableSound e r.table) (known : (X : Bytes) 
     overdue-taken : (t₀ : ℕ) → OpenPing e X t₀ r.log → t₀ + ping_timeout < t → HasEntry e X (next e r.table (sweep t)) → ⊥
     overdue-taken t₀ o h after =
         let was = entry_of e X r.table in
-        let is-proved = All-select (λ p. is_proved p.proof ≡ true) (is_of X) (bucketOf e r.table X).entries (ok.each (slot e X)).entries_proved in
+        let is-proved = All-select (λ p. is_proved p.proof ≡ true) (is_of X) (bucket_of e r.table X).entries (ok.each (slot e X)).entries_proved in
         omega (
           arith,
           ap length (swept-entry e r.table ok X has t a),

@@ -15,12 +15,12 @@ use Rattle.entry.specs.declared.Entry.{Entry}
 use Rattle.bucket_model.specs.Contents.{Contents}
 use Rattle.bucket_model.specs.Rules.{takes_entry, of_key, held, is_verified, pinged, ponged, heard, stays_entry, on_ping_sent, on_pong}
 use Rattle.bucket_model.proofs.View.{own-heard, own-pong-stays, own-pong-takes, own-pinged}
-use Rattle.call_history.specs.Model.{Env, Reading, refused, ping, pong, other, Call, datagram, ping_sent, sweep, closest, unclocked, Table, slot, bucketOf, packetRefusals, datagramRefusals, pingSentRefusals, answer, Accepted, on_packet, on_datagram, effect, next, Run}
-use Rattle.call_history.specs.Words.{entry_of, replacementOf, HasEntry}
-use Rattle.call_history.specs.Demand3.{clock_reading, Rises, NotFalling, LeftOut, nothing, same, less, count_sweep, entryLostAt, Isolated}
-use Rattle.call_history.proofs.Step.{byAnswer, own-bucket, datagram-keyed, ping-allowed, sweep-accepted}
+use Rattle.call_history.specs.Model.{Env, Reading, refused, ping, pong, other, Call, datagram, ping_sent, sweep, closest, unclocked, Table, slot, bucket_of, packet_refusals, datagram_refusals, ping_sent_refusals, answer, Accepted, on_packet, on_datagram, effect, next, Run}
+use Rattle.call_history.specs.Words.{entry_of, replacement_of, HasEntry}
+use Rattle.call_history.specs.Demand3.{clock_reading, Rises, NotFalling, LeftOut, nothing, same, less, count_sweep, entry_lost_at, Isolated}
+use Rattle.call_history.proofs.Step.{by_answer, own-bucket, datagram-keyed, ping-allowed, sweep-accepted}
 use Rattle.call_history.proofs.Sound.{TableSound, next-sound}
-use Rattle.call_history.proofs.View.{other-datagram, other-pingSent}
+use Rattle.call_history.proofs.View.{other-datagram, other_ping_sent}
 use Rattle.call_history.proofs.Entry.{swept-entry}
 
 -- ---- an entry after a call of its own key: a function of the entry alone
@@ -58,9 +58,9 @@ module _ (now : ℕ) (key : Bytes) (b : Contents) (p : Entry) (has : of_key key 
   datagram-entry address udp (pong hash) = pong-entry
   datagram-entry address udp other = packet-entry address udp
 
-  pingSent-entry : (address : Bytes) (udp tcp : ℕ) (hash : Bytes)
+  ping_sent_entry : (address : Bytes) (udp tcp : ℕ) (hash : Bytes)
       → of_key key (on_ping_sent now key address udp tcp hash b).entries ≡ pinged now hash p ∷ []
-  pingSent-entry address udp tcp hash = (own-pinged now key b address udp tcp hash (rw held-is)).entries ∙ rw has
+  ping_sent_entry address udp tcp hash = (own-pinged now key b address udp tcp hash (rw held-is)).entries ∙ rw has
 
 -- ---- two tables in which a node has the same entry
 
@@ -72,15 +72,15 @@ record At (e : Env) (X : Bytes) (p : Entry) (s : Table) : Type 0 where
 at_entry : (e : Env) (X : Bytes) (p : Entry) (s : Table) → At e X p s → HasEntry e X s
 at_entry e X p s a = rw a.has (omega arith)
 
-no_wait : (e : Env) (X : Bytes) (p : Entry) (s : Table) → At e X p s → replacementOf e X s ≡ []
-no_wait e X p s a = nil (replacementOf e X s) (omega (arith, (a.ok.each (slot e X)).once X, ap length a.has))
+no_wait : (e : Env) (X : Bytes) (p : Entry) (s : Table) → At e X p s → replacement_of e X s ≡ []
+no_wait e X p s a = nil (replacement_of e X s) (omega (arith, (a.ok.each (slot e X)).once X, ap length a.has))
 
 module _ (e : Env) (key : Bytes) (p : Entry) (s₁ s₂ : Table) (a₁ : At e key p s₁) (a₂ : At e key p s₂) where
-  same_held : held key (bucketOf e s₁ key) ≡ held key (bucketOf e s₂ key)
+  same_held : held key (bucket_of e s₁ key) ≡ held key (bucket_of e s₂ key)
   same_held = rw (a₁.has, a₂.has, no_wait e key p s₁ a₁, no_wait e key p s₂ a₂)
 
   same-refusals : (now : ℕ) (address : Bytes) (udp : ℕ) (r : Reading)
-      → packetRefusals e now address udp key r (bucketOf e s₁ key) ≡ packetRefusals e now address udp key r (bucketOf e s₂ key)
+      → packet_refusals e now address udp key r (bucket_of e s₁ key) ≡ packet_refusals e now address udp key r (bucket_of e s₂ key)
   same-refusals now address udp (refused fault) = refl
   same-refusals now address udp ping = refl
   same-refusals now address udp (pong hash) = rw same_held
@@ -89,14 +89,14 @@ module _ (e : Env) (key : Bytes) (p : Entry) (s₁ s₂ : Table) (a₁ : At e ke
   module _ (now : ℕ) (t₁ : s₁.clock ≤ now) (t₂ : s₂.clock ≤ now) where
     datagram-answer : (unix : ℕ) (address : Bytes) (udp : ℕ) (bytes : Bytes)
         → answer e s₁ (datagram now unix address udp key bytes) ≡ answer e s₂ (datagram now unix address udp key bytes)
-    unfolding datagramRefusals
+    unfolding datagram_refusals
     datagram-answer unix address udp bytes =
         rw (le-ltb now s₁.clock t₁, le-ltb now s₂.clock t₂, same-refusals now address udp (e.read bytes unix))
 
-    pingSent-answer : (address : Bytes) (udp tcp : ℕ) (hash : Bytes)
+    ping_sent_answer : (address : Bytes) (udp tcp : ℕ) (hash : Bytes)
         → answer e s₁ (ping_sent now key address udp tcp hash) ≡ answer e s₂ (ping_sent now key address udp tcp hash)
-    unfolding pingSentRefusals
-    pingSent-answer address udp tcp hash =
+    unfolding ping_sent_refusals
+    ping_sent_answer address udp tcp hash =
         simp (le-ltb now s₁.clock t₁, le-ltb now s₂.clock t₂, a₁.has, a₂.has, no_wait e key p s₁ a₁, no_wait e key p s₂ a₂)
 
     -- both accept the call, or neither
@@ -123,21 +123,21 @@ module _ (e : Env) (key : Bytes) (p : Entry) (s₁ s₂ : Table) (a₁ : At e ke
           own-bucket e s₁ a₁.ok.sized now key f (datagram-keyed e s₁ now unix address udp key bytes c₁).is_kept,
           own-bucket e s₂ a₂.ok.sized now key f (datagram-keyed e s₂ now unix address udp key bytes c₂).is_kept,
         )
-        (datagram-entry now key (bucketOf e s₁ key) p a₁.has (no_wait e key p s₁ a₁) address udp r
-        ∙ sym (datagram-entry now key (bucketOf e s₂ key) p a₂.has (no_wait e key p s₂ a₂) address udp r)))
+        (datagram-entry now key (bucket_of e s₁ key) p a₁.has (no_wait e key p s₁ a₁) address udp r
+        ∙ sym (datagram-entry now key (bucket_of e s₂ key) p a₂.has (no_wait e key p s₂ a₂) address udp r)))
 
-    own-pingSent : (address : Bytes) (udp tcp : ℕ) (hash : Bytes)
+    own_ping_sent : (address : Bytes) (udp tcp : ℕ) (hash : Bytes)
         → entry_of e key (next e s₁ (ping_sent now key address udp tcp hash)) ≡ entry_of e key (next e s₂ (ping_sent now key address udp tcp hash))
-    own-pingSent address udp tcp hash =
+    own_ping_sent address udp tcp hash =
         let f = on_ping_sent now key address udp tcp hash in
-        by_both (ping_sent now key address udp tcp hash) (pingSent-answer address udp tcp hash)
+        by_both (ping_sent now key address udp tcp hash) (ping_sent_answer address udp tcp hash)
         (λ c₁ c₂.
         rw (
           own-bucket e s₁ a₁.ok.sized now key f (ping-allowed e s₁ now key address udp tcp hash c₁).keyed.is_kept,
           own-bucket e s₂ a₂.ok.sized now key f (ping-allowed e s₂ now key address udp tcp hash c₂).keyed.is_kept,
         )
-        (pingSent-entry now key (bucketOf e s₁ key) p a₁.has (no_wait e key p s₁ a₁) address udp tcp hash
-        ∙ sym (pingSent-entry now key (bucketOf e s₂ key) p a₂.has (no_wait e key p s₂ a₂) address udp tcp hash)))
+        (ping_sent_entry now key (bucket_of e s₁ key) p a₁.has (no_wait e key p s₁ a₁) address udp tcp hash
+        ∙ sym (ping_sent_entry now key (bucket_of e s₂ key) p a₂.has (no_wait e key p s₂ a₂) address udp tcp hash)))
 
 swept_at : (e : Env) (X : Bytes) (p : Entry) (s : Table) → At e X p s → (now : ℕ) → s.clock ≤ now
     → entry_of e X (next e s (sweep now)) ≡ select (stays_entry now) (p ∷ [])
@@ -161,18 +161,18 @@ same_entry e X p s₁ s₂ a₁ a₂ last t₁ t₂ (ping_sent now key address u
     by_test (same_bytes X key)
     (λ g.
     let is = same_eq X key g in
-    rw is (own-pingSent e key p s₁ s₂ (rw is at a₁) (rw is at a₂) now (omega arith) (omega arith) address udp tcp hash))
+    rw is (own_ping_sent e key p s₁ s₂ (rw is at a₁) (rw is at a₂) now (omega arith) (omega arith) address udp tcp hash))
     (λ g.
-    (other-pingSent e s₁ a₁.ok.sized X key g now address udp tcp hash).entries
+    (other_ping_sent e s₁ a₁.ok.sized X key g now address udp tcp hash).entries
     ∙ a₁.has ∙ sym a₂.has
-    ∙ sym (other-pingSent e s₂ a₂.ok.sized X key g now address udp tcp hash).entries)
+    ∙ sym (other_ping_sent e s₂ a₂.ok.sized X key g now address udp tcp hash).entries)
 same_entry e X p s₁ s₂ a₁ a₂ last t₁ t₂ (sweep now) h =
     swept_at e X p s₁ a₁ now (omega arith) ∙ sym (swept_at e X p s₂ a₂ now (omega arith))
 same_entry e X p s₁ s₂ a₁ a₂ last t₁ t₂ (closest target room) h =
     unmoved s₁ ∙ a₁.has ∙ sym a₂.has ∙ sym (unmoved s₂)
   where
     unmoved : (s : Table) → entry_of e X (next e s (closest target room)) ≡ entry_of e X s
-    unmoved s = byAnswer e (λ s'. entry_of e X s' ≡ entry_of e X s) s (closest target room) (λ _. refl) (λ _. refl)
+    unmoved s = by_answer e (λ s'. entry_of e X s' ≡ entry_of e X s) s (closest target room) (λ _. refl) (λ _. refl)
 same_entry e X p s₁ s₂ a₁ a₂ last t₁ t₂ (unclocked c) h = absurd h
 
 effect_clock : (e : Env) (s : Table) (last : ℕ) → s.clock ≤ last → (c : Call) → (effect e s c).clock ≤ clock_reading last c
@@ -191,7 +191,7 @@ rises last (unclocked c) h = absurd h
 
 next_clock : (e : Env) (s : Table) (last : ℕ) → s.clock ≤ last → (c : Call) → Rises last c → (next e s c).clock ≤ clock_reading last c
 next_clock e s last h c g =
-    byAnswer e (λ s'. s'.clock ≤ clock_reading last c) s c (λ _. effect_clock e s last h c) (λ _. omega (arith, rises last c g))
+    by_answer e (λ s'. s'.clock ≤ clock_reading last c) s c (λ _. effect_clock e s last h c) (λ _. omega (arith, rises last c g))
 
 -- ---- two lists of calls
 
@@ -201,7 +201,7 @@ module _ (e : Env) (X : Bytes) where
   Alike cs ds =
       (p : Entry) (s₁ s₂ : Table) → At e X p s₁ → At e X p s₂
       → (last : ℕ) → s₁.clock ≤ last → s₂.clock ≤ last → NotFalling last cs
-      → (n : ℕ) → entryLostAt e X s₁ n cs ≡ entryLostAt e X s₂ n ds
+      → (n : ℕ) → entry_lost_at e X s₁ n cs ≡ entry_lost_at e X s₂ n ds
 
   single : (s : Table) → TableSound e s → (q : Entry) (m : List Entry) → entry_of e X s ≡ q ∷ m → At e X q s
   single s ok q m h =
@@ -216,7 +216,7 @@ module _ (e : Env) (X : Bytes) where
       go (entry_of e X (next e s₂ c)) (same_entry e X p s₁ s₂ a₁ a₂ last t₁ t₂ c rise.0) refl
     where
       go : (l : List Entry) → entry_of e X (next e s₁ c) ≡ l → entry_of e X (next e s₂ c) ≡ l
-          → entryLostAt e X s₁ n (c ∷ cs) ≡ entryLostAt e X s₂ n (c ∷ ds)
+          → entry_lost_at e X s₁ n (c ∷ cs) ≡ entry_lost_at e X s₂ n (c ∷ ds)
       go [] h₁ h₂ = rw (h₁, h₂)
       go (q ∷ m) h₁ h₂ =
           rw (h₁, h₂)
@@ -247,7 +247,7 @@ pub isolated : (e : Env) (r : Run e) → TableSound e r.table → (later : List 
 unfolding Alike
 isolated e r ok later X has rise fewer out = go (entry_of e X r.table) refl has
   where
-    go : (l : List Entry) → entry_of e X r.table ≡ l → 0 < length l → entryLostAt e X r.table 0 later ≡ entryLostAt e X r.table 0 fewer
+    go : (l : List Entry) → entry_of e X r.table ≡ l → 0 < length l → entry_lost_at e X r.table 0 later ≡ entry_lost_at e X r.table 0 fewer
     go [] h g = absurd (omega arith)
     go (p ∷ m) h g =
         let at = single e X r.table ok p m h in

@@ -17,11 +17,11 @@ use Rattle.node.specs.declared.MonotonicMillis.{MonotonicMillis}
 use Rattle.entry.specs.declared.PingState.TheVariants.{Out}
 use Rattle.bucket_model.specs.Contents.{Contents}
 use Rattle.bucket_model.specs.Rules.{takes_entry, millis, of_key, held, is_out, is_proved, pinged, ponged, heard, stays_entry, stays_replacement, on_ping_sent, on_pong, on_heard, on_sweep, new_entry}
-use Rattle.bucket_model.proofs.View.{Holds, Mapped, kept_entries, kept_replacements, own-heard, own-pong-stays, own-pong-takes, own-pinged, own-joined, own-sweep, ofKey-kept}
-use Rattle.bucket_model.proofs.Promotion.{ofKey-promoted, ofKey-remaining}
-use Rattle.call_history.specs.Model.{Env, Call, datagram, ping_sent, sweep, closest, unclocked, slot, bucketOf, answer, next, Event, Run, advance}
+use Rattle.bucket_model.proofs.View.{Holds, Mapped, kept_entries, kept_replacements, own-heard, own-pong-stays, own-pong-takes, own-pinged, own-joined, own-sweep, of_key_kept}
+use Rattle.bucket_model.proofs.Promotion.{of_key-promoted, of_key-remaining}
+use Rattle.call_history.specs.Model.{Env, Call, datagram, ping_sent, sweep, closest, unclocked, slot, bucket_of, answer, next, Event, Run, advance}
 use Rattle.call_history.specs.Words.{is_pong, PingAt, pong_from, OpenPing, begins, proved}
-use Rattle.call_history.proofs.Step.{by_datagram, byAnswer, ping-allowed, swept_bucket}
+use Rattle.call_history.proofs.Step.{by_datagram, by_answer, ping-allowed, swept_bucket}
 use Rattle.call_history.proofs.Sound.{TableSound}
 use Rattle.call_history.proofs.View as View
 
@@ -52,11 +52,11 @@ module _ (P Q : Entry → Type 0) (key : Bytes) (b : Contents) (both : Both P ke
   pub both-same : ((p : Entry) → P p → Q p) → Both Q key b
   both-same f = (All-imp P Q f (of_key key b.entries) both.0, All-imp P Q f (of_key key b.replacements) both.1)
 
-  both-pingSent : (now : ℕ) (address : Bytes) (udp tcp : ℕ) (hash : Bytes)
+  both_ping_sent : (now : ℕ) (address : Bytes) (udp tcp : ℕ) (hash : Bytes)
       → (empty (held key b) ≡ true → Q (new_entry now key address udp tcp hash))
       → (empty (held key b) ≡ false → (p : Entry) → P p → Q (pinged now hash p))
       → Both Q key (on_ping_sent now key address udp tcp hash b)
-  both-pingSent now address udp tcp hash new f =
+  both_ping_sent now address udp tcp hash new f =
       by_test (empty (held key b))
       (λ t. holds_both Q key (on_ping_sent now key address udp tcp hash b) [] (new_entry now key address udp tcp hash ∷ [])
       (own-joined now key b address udp tcp hash t) tt (new t, tt))
@@ -65,12 +65,12 @@ module _ (P Q : Entry → Type 0) (key : Bytes) (b : Contents) (both : Both P ke
 pub both_sweep : (P : Entry → Type 0) (X : Bytes) (now : ℕ) (b : Contents) → Both P X b → Both P X (on_sweep now b)
 both_sweep P X now b both =
     let line : All P (of_key X (kept_replacements now b)) =
-    rw (ofKey-kept X now b) (All-select P (stays_replacement now) (of_key X b.replacements) both.1) in
+    rw (of_key_kept X now b) (All-select P (stays_replacement now) (of_key X b.replacements) both.1) in
     holds_both P X (on_sweep now b) _ _ (own-sweep X now b)
     (All-append P (select (stays_entry now) (of_key X b.entries)) _
     (All-select P (stays_entry now) (of_key X b.entries) both.0)
-    (ofKey-promoted P X (kept_entries now b) (kept_replacements now b) line))
-    (ofKey-remaining P X (kept_entries now b) (kept_replacements now b) line)
+    (of_key-promoted P X (kept_entries now b) (kept_replacements now b) line))
+    (of_key-remaining P X (kept_entries now b) (kept_replacements now b) line)
 
 -- ---- an entry and the log
 
@@ -114,12 +114,12 @@ module _ (e : Env) where
     shift_in : (b : Contents) → KnownIn X log b → KnownIn X (v ∷ log) b
     shift_in b kn = both-same (Known X log) (Known X (v ∷ log)) X b kn shift
 
-  module _ (r : Run e) (ok : TableSound e r.table) (known : (X : Bytes) → KnownIn X r.log (bucketOf e r.table X)) where
+  module _ (r : Run e) (ok : TableSound e r.table) (known : (X : Bytes) → KnownIn X r.log (bucket_of e r.table X)) where
     own-datagram : (now unix : ℕ) (address : Bytes) (udp : ℕ) (key bytes : Bytes)
-        → KnownIn key (advance e r (datagram now unix address udp key bytes)).log (bucketOf e (next e r.table (datagram now unix address udp key bytes)) key)
+        → KnownIn key (advance e r (datagram now unix address udp key bytes)).log (bucket_of e (next e r.table (datagram now unix address udp key bytes)) key)
     own-datagram now unix address udp key bytes =
         let s = r.table in
-        let b = bucketOf e s key in
+        let b = bucket_of e s key in
         let c = datagram now unix address udp key bytes in
         let v : Event e = record { given = s; call = c } in
         let reading = e.read bytes unix in
@@ -144,16 +144,16 @@ module _ (e : Env) where
         (λ rejected. shift_in key v r.log
         (record { no_ping = λ t z. z; no_pong = rw (ne_eqb (answer e s c) 0 rejected) (simp and-false); no_start = refl }) b (known key))
 
-    own-pingSent : (now : ℕ) (key address : Bytes) (udp tcp : ℕ) (hash : Bytes)
-        → KnownIn key (advance e r (ping_sent now key address udp tcp hash)).log (bucketOf e (next e r.table (ping_sent now key address udp tcp hash)) key)
-    own-pingSent now key address udp tcp hash =
+    own_ping_sent : (now : ℕ) (key address : Bytes) (udp tcp : ℕ) (hash : Bytes)
+        → KnownIn key (advance e r (ping_sent now key address udp tcp hash)).log (bucket_of e (next e r.table (ping_sent now key address udp tcp hash)) key)
+    own_ping_sent now key address udp tcp hash =
         let s = r.table in
         let c = ping_sent now key address udp tcp hash in
         let v : Event e = record { given = s; call = c } in
-        let b = bucketOf e s key in
+        let b = bucket_of e s key in
         let es = of_key key b.entries in
         let rs = of_key key b.replacements in
-        View.own-pingSent e s ok.sized (KnownIn key (v ∷ r.log)) now key address udp tcp hash
+        View.own_ping_sent e s ok.sized (KnownIn key (v ∷ r.log)) now key address udp tcp hash
         (λ a.
         let allowed = ping-allowed e s now key address udp tcp hash a in
         let still = any_false (λ p. is_out p.ping) (held key b) allowed.none_out in
@@ -162,7 +162,7 @@ module _ (e : Env) where
           All-and (Known key r.log) (λ p. is_out p.ping ≡ false) es (known key).0 (All-left _ es rs still),
           All-and (Known key r.log) (λ p. is_out p.ping ≡ false) rs (known key).1 (All-right _ es rs still),
         ) in
-        both-pingSent P (Known key (v ∷ r.log)) key b both now address udp tcp hash
+        both_ping_sent P (Known key (v ∷ r.log)) key b both now address udp tcp hash
         (λ new.
         let put : begins e key s c ≡ true = rw (same_refl key, eq-eqb (answer e s c) 0 a, new) in
         record {
@@ -184,34 +184,34 @@ module _ (e : Env) where
           no_start = rw (ne_eqb (answer e s c) 0 rejected) (simp and-false);
         }) b (known key))
 
-    pub advance-known : (c : Call) (X : Bytes) → KnownIn X (advance e r c).log (bucketOf e (next e r.table c) X)
+    pub advance-known : (c : Call) (X : Bytes) → KnownIn X (advance e r c).log (bucket_of e (next e r.table c) X)
     advance-known (datagram now unix address udp key bytes) X =
         by_test (same_bytes X key)
         (λ h. rw (same_eq X key h) (own-datagram now unix address udp key bytes))
         (λ h.
         let same = View.other-datagram e r.table ok.sized X key h now unix address udp bytes in
         let kn = shift_in X (record { given = r.table; call = datagram now unix address udp key bytes }) r.log
-        (record { no_ping = λ t z. z; no_pong = ap (λ (b : Bool). b && (is_pong (e.read bytes unix) && eqb (answer e r.table (datagram now unix address udp key bytes)) 0)) h; no_start = refl }) (bucketOf e r.table X) (known X) in
+        (record { no_ping = λ t z. z; no_pong = ap (λ (b : Bool). b && (is_pong (e.read bytes unix) && eqb (answer e r.table (datagram now unix address udp key bytes)) 0)) h; no_start = refl }) (bucket_of e r.table X) (known X) in
         holds_both _ X _ _ _ same kn.0 kn.1)
     advance-known (ping_sent now key address udp tcp hash) X =
         by_test (same_bytes X key)
-        (λ h. rw (same_eq X key h) (own-pingSent now key address udp tcp hash))
+        (λ h. rw (same_eq X key h) (own_ping_sent now key address udp tcp hash))
         (λ h.
-        let same = View.other-pingSent e r.table ok.sized X key h now address udp tcp hash in
+        let same = View.other_ping_sent e r.table ok.sized X key h now address udp tcp hash in
         let kn = shift_in X (record { given = r.table; call = ping_sent now key address udp tcp hash }) r.log
-        (record { no_ping = λ t o. not_same X key h o.0; no_pong = refl; no_start = rw h }) (bucketOf e r.table X) (known X) in
+        (record { no_ping = λ t o. not_same X key h o.0; no_pong = refl; no_start = rw h }) (bucket_of e r.table X) (known X) in
         holds_both _ X _ _ _ same kn.0 kn.1)
     advance-known (sweep now) X =
         let kn = shift_in X (record { given = r.table; call = sweep now }) r.log
-        (record { no_ping = λ t z. z; no_pong = refl; no_start = refl }) (bucketOf e r.table X) (known X) in
-        byAnswer e (λ s'. KnownIn X (advance e r (sweep now)).log (bucketOf e s' X)) r.table (sweep now)
-        (λ a. rw (swept_bucket e r.table now (slot e X)) (both_sweep _ X now (bucketOf e r.table X) kn))
+        (record { no_ping = λ t z. z; no_pong = refl; no_start = refl }) (bucket_of e r.table X) (known X) in
+        by_answer e (λ s'. KnownIn X (advance e r (sweep now)).log (bucket_of e s' X)) r.table (sweep now)
+        (λ a. rw (swept_bucket e r.table now (slot e X)) (both_sweep _ X now (bucket_of e r.table X) kn))
         (λ _. kn)
     advance-known (closest target room) X =
         let kn = shift_in X (record { given = r.table; call = closest target room }) r.log
-        (record { no_ping = λ t z. z; no_pong = refl; no_start = refl }) (bucketOf e r.table X) (known X) in
-        byAnswer e (λ s'. KnownIn X (advance e r (closest target room)).log (bucketOf e s' X)) r.table (closest target room)
+        (record { no_ping = λ t z. z; no_pong = refl; no_start = refl }) (bucket_of e r.table X) (known X) in
+        by_answer e (λ s'. KnownIn X (advance e r (closest target room)).log (bucket_of e s' X)) r.table (closest target room)
         (λ _. kn) (λ _. kn)
     advance-known (unclocked c) X =
         shift_in X (record { given = r.table; call = unclocked c }) r.log
-        (record { no_ping = λ t z. z; no_pong = refl; no_start = refl }) (bucketOf e r.table X) (known X)
+        (record { no_ping = λ t z. z; no_pong = refl; no_start = refl }) (bucket_of e r.table X) (known X)

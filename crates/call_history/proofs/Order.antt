@@ -13,11 +13,11 @@ use Rattle.lists.proofs.Laws.{by_test, never, empty-append, All-imp, All-every, 
 use Rattle.entry.specs.declared.Entry.{Entry}
 use Rattle.bucket_model.specs.Contents.{Contents}
 use Rattle.bucket_model.specs.Rules.{is_of, of_key, held, on_ping_sent}
-use Rattle.bucket_model.proofs.Promotion.{Below, rising-heard, rising-pong, rising-pingSent, rising-sweep}
-use Rattle.call_history.specs.Model.{Env, Call, datagram, ping_sent, sweep, closest, unclocked, Table, slot, bucket_at, bucketOf, answer, Accepted, on_datagram, next, Event, Run, advance}
+use Rattle.bucket_model.proofs.Promotion.{Below, rising-heard, rising-pong, rising_ping_sent, rising-sweep}
+use Rattle.call_history.specs.Model.{Env, Call, datagram, ping_sent, sweep, closest, unclocked, Table, slot, bucket_at, bucket_of, answer, Accepted, on_datagram, next, Event, Run, advance}
 use Rattle.call_history.specs.Words.{OwnBucket, latest, begins, began}
 use Rattle.call_history.specs.Demand3.{InOrder}
-use Rattle.call_history.proofs.Step.{by_datagram, byAnswer, datagram-keyed, ping-allowed, byBucket, swept_bucket}
+use Rattle.call_history.proofs.Step.{by_datagram, by_answer, datagram-keyed, ping-allowed, by_bucket, swept_bucket}
 use Rattle.call_history.proofs.Sound.{TableSound, own-buckets}
 
 pub other_key : (key X : Bytes) → same_bytes key X ≡ false → same_bytes X key ≡ false
@@ -56,20 +56,20 @@ module _ (e : Env) where
 
   module _ (r : Run e) (ok : TableSound e r.table) (in_order : InOrder e r) where
     module _ (now : ℕ) (key address : Bytes) (udp tcp : ℕ) (hash : Bytes) where
-      abbrev theCall : Call
-      theCall = ping_sent now key address udp tcp hash
+      abbrev the_call : Call
+      the_call = ping_sent now key address udp tcp hash
 
-      abbrev theEvent : Event e
-      theEvent = record { given = r.table; call = theCall }
+      abbrev the_event : Event e
+      the_event = record { given = r.table; call = the_call }
 
-      abbrev theBucket : Contents
-      theBucket = bucketOf e r.table key
+      abbrev the_bucket : Contents
+      the_bucket = bucket_of e r.table key
 
       abbrev after : Entry → Entry → Type 0
-      after = Below (began e (theEvent ∷ r.log))
+      after = Below (began e (the_event ∷ r.log))
 
       abbrev Stays : Entry → Type 0
-      Stays p = begins e p.key r.table theCall ≡ false
+      Stays p = begins e p.key r.table the_call ≡ false
 
       -- the entries of another key than the call's
       others : (l : List Entry) → All (λ p. is_of key p ≡ false) l → All Stays l
@@ -79,33 +79,33 @@ module _ (e : Env) where
       elsewhere : (i : ℕ) → (i ≡ slot e key → ⊥) → Rising after (bucket_at e r.table i).replacements
       elsewhere i away =
           let line = (bucket_at e r.table i).replacements in
-          kept-order theEvent r.log line (others line (none-away key i away line (own-buckets e r.table ok i).1)) (in_order i)
+          kept-order the_event r.log line (others line (none-away key i away line (own-buckets e r.table ok i).1)) (in_order i)
 
       -- the key's bucket: a held node begins no stay, and a new one stands behind all that do
-      here : Accepted e r.table theCall → Rising after (on_ping_sent now key address udp tcp hash theBucket).replacements
+      here : Accepted e r.table the_call → Rising after (on_ping_sent now key address udp tcp hash the_bucket).replacements
       here a =
-          let line = theBucket.replacements in
+          let line = the_bucket.replacements in
           let stay : All Stays line =
-          by_test (empty (held key theBucket))
-          (λ new. others line (none_of key line (empty-append (of_key key theBucket.entries) (of_key key line) new).1))
+          by_test (empty (held key the_bucket))
+          (λ new. others line (none_of key line (empty-append (of_key key the_bucket.entries) (of_key key line) new).1))
           (λ old. All-every Stays (λ p. rw old (simp and-false)) line) in
-          rising-pingSent (began e (theEvent ∷ r.log)) now key theBucket
-          (kept-order theEvent r.log line stay (in_order (slot e key)))
+          rising_ping_sent (began e (the_event ∷ r.log)) now key the_bucket
+          (kept-order the_event r.log line stay (in_order (slot e key)))
           address udp tcp hash
           (λ new.
-          let put : begins e key r.table theCall ≡ true = rw (same_refl key, eq-eqb (answer e r.table theCall) 0 a, new) in
-          All-imp Stays (λ p. began e (theEvent ∷ r.log) p.key < began e (theEvent ∷ r.log) key)
+          let put : begins e key r.table the_call ≡ true = rw (same_refl key, eq-eqb (answer e r.table the_call) 0 a, new) in
+          All-imp Stays (λ p. began e (the_event ∷ r.log) p.key < began e (the_event ∷ r.log) key)
           (λ p g. rw (g, put) (omega (arith, latest-le (λ v. begins e p.key v.given v.call) r.log))) line stay)
 
-      pinged-order : (i : ℕ) → Rising after (bucket_at e (next e r.table theCall) i).replacements
+      pinged-order : (i : ℕ) → Rising after (bucket_at e (next e r.table the_call) i).replacements
       pinged-order i =
-          byAnswer e (λ s'. Rising after (bucket_at e s' i).replacements) r.table theCall
-          (λ a. byBucket e r.table ok.sized now key (on_ping_sent now key address udp tcp hash)
+          by_answer e (λ s'. Rising after (bucket_at e s' i).replacements) r.table the_call
+          (λ a. by_bucket e r.table ok.sized now key (on_ping_sent now key address udp tcp hash)
           (ping-allowed e r.table now key address udp tcp hash a).keyed.is_kept (λ i b. Rising after b.replacements)
           (here a) elsewhere i)
           (λ rejected.
-          kept-order theEvent r.log (bucket_at e r.table i).replacements
-          (All-every Stays (λ p. rw (ne_eqb (answer e r.table theCall) 0 rejected) (simp and-false)) (bucket_at e r.table i).replacements)
+          kept-order the_event r.log (bucket_at e r.table i).replacements
+          (All-every Stays (λ p. rw (ne_eqb (answer e r.table the_call) 0 rejected) (simp and-false)) (bucket_at e r.table i).replacements)
           (in_order i))
 
     abbrev InLine : Table → ℕ → Type 0
@@ -116,9 +116,9 @@ module _ (e : Env) where
         let s = r.table in
         let reading = e.read bytes unix in
         let rank = began e r.log in
-        let b = bucketOf e s key in
-        byAnswer e (λ s'. InLine s' i) s (datagram now unix address udp key bytes)
-        (λ a. byBucket e s ok.sized now key (on_datagram now address udp key reading)
+        let b = bucket_of e s key in
+        by_answer e (λ s'. InLine s' i) s (datagram now unix address udp key bytes)
+        (λ a. by_bucket e s ok.sized now key (on_datagram now address udp key reading)
         (datagram-keyed e s now unix address udp key bytes a).is_kept (λ i b. Rising (Below rank) b.replacements)
         (by_datagram (λ b. Rising (Below rank) b.replacements) now address udp key reading b
         (λ _. in_order (slot e key))
@@ -128,9 +128,9 @@ module _ (e : Env) where
         (λ _. in_order i)
     advance-order (ping_sent now key address udp tcp hash) i = pinged-order now key address udp tcp hash i
     advance-order (sweep now) i =
-        byAnswer e (λ s'. InLine s' i) r.table (sweep now)
+        by_answer e (λ s'. InLine s' i) r.table (sweep now)
         (λ a. rw (swept_bucket e r.table now i) (rising-sweep (began e r.log) now (bucket_at e r.table i) (in_order i)))
         (λ _. in_order i)
     advance-order (closest target room) i =
-        byAnswer e (λ s'. InLine s' i) r.table (closest target room) (λ _. in_order i) (λ _. in_order i)
+        by_answer e (λ s'. InLine s' i) r.table (closest target room) (λ _. in_order i) (λ _. in_order i)
     advance-order (unclocked c) i = in_order i

@@ -18,12 +18,12 @@ use Rattle.bucket_model.specs.Contents.{Contents}
 use Rattle.bucket_model.specs.Rules.{may_take, takes_entry, is_promoted, is_of, of_key, held, is_proved, pinged, ponged, heard, promoted, remaining, stays_entry, stays_replacement, on_ping_sent, on_pong, on_heard}
 use Rattle.bucket_model.specs.Facts.{SeatFor}
 use Rattle.bucket_model.proofs.Keys.{promoted_or_remaining}
-use Rattle.bucket_model.proofs.View.{Mapped, own-heard, own-pong-stays, own-pinged, own-sweep, ofKey-kept}
-use Rattle.bucket_model.proofs.Promotion.{proved_entry, takenBefore, promoted-room, room-promoted, ofKey-remaining, lower-before}
-use Rattle.call_history.specs.Model.{Env, Reading, Call, datagram, ping_sent, sweep, closest, unclocked, Table, slot, bucketOf, Accepted, on_datagram, next, Event, Run}
-use Rattle.call_history.specs.Words.{entry_of, replacementOf, HasEntry, AcceptedSweep, began, proved, ProvedReplacement, kept_entries, kept_replacements, taken_after, takenAhead}
+use Rattle.bucket_model.proofs.View.{Mapped, own-heard, own-pong-stays, own-pinged, own-sweep, of_key_kept}
+use Rattle.bucket_model.proofs.Promotion.{proved_entry, taken_before, promoted-room, room-promoted, of_key-remaining, lower-before}
+use Rattle.call_history.specs.Model.{Env, Reading, Call, datagram, ping_sent, sweep, closest, unclocked, Table, slot, bucket_of, Accepted, on_datagram, next, Event, Run}
+use Rattle.call_history.specs.Words.{entry_of, replacement_of, HasEntry, AcceptedSweep, began, proved, ProvedReplacement, kept_entries, kept_replacements, taken_after, taken_ahead}
 use Rattle.call_history.specs.Demand3.{LeavesReplacements, HasRoomFor, TakesEntry, Drops, ProvedByPong, InOrder}
-use Rattle.call_history.proofs.Step.{by_datagram, byAnswer, swept_bucket}
+use Rattle.call_history.proofs.Step.{by_datagram, by_answer, swept_bucket}
 use Rattle.call_history.proofs.Sound.{TableSound}
 use Rattle.call_history.proofs.View as View
 use Rattle.call_history.proofs.Log.{Known, KnownIn}
@@ -59,8 +59,8 @@ module _ (now : ℕ) (key : Bytes) (b : Contents) (w : Waits key b) where
         no-entry = count-mapped now key b f c h ∙ w.no-entry;
       }
 
-  pingSent-waits : (address : Bytes) (udp tcp : ℕ) (hash : Bytes) → Waits key (on_ping_sent now key address udp tcp hash b)
-  pingSent-waits address udp tcp hash =
+  ping_sent_waits : (address : Bytes) (udp tcp : ℕ) (hash : Bytes) → Waits key (on_ping_sent now key address udp tcp hash b)
+  ping_sent_waits address udp tcp hash =
       let old : empty (held key b) ≡ false =
       by_test (empty (held key b))
       (λ g. absurd (omega (arith, w.in_line, (empty-append (of_key key b.entries) (of_key key b.replacements) g).1)))
@@ -77,26 +77,26 @@ module _ (now : ℕ) (key : Bytes) (b : Contents) (w : Waits key b) where
 
 module _ (e : Env) (s : Table) (ok : TableSound e s) where
   -- proved nodes wait only where they may not take an entry
-  may-not-take : (X : Bytes) → Waits X (bucketOf e s X) → takes_entry X (bucketOf e s X) ≡ false
+  may-not-take : (X : Bytes) → Waits X (bucket_of e s X) → takes_entry X (bucket_of e s X) ≡ false
   may-not-take X w =
-      let b = bucketOf e s X in
-      none (replacementOf e X s) w.is-proved (All-select (λ p. is_promoted b.entries p ≡ false) (is_of X) b.replacements (ok.each (slot e X)).settled)
+      let b = bucket_of e s X in
+      none (replacement_of e X s) w.is-proved (All-select (λ p. is_promoted b.entries p ≡ false) (is_of X) b.replacements (ok.each (slot e X)).settled)
     where
-      none : (l : List Entry) → All IsProved l → All (λ p. is_promoted (bucketOf e s X).entries p ≡ false) l
-          → any (λ p. may_take (bucketOf e s X).entries p.endpoint) l ≡ false
+      none : (l : List Entry) → All IsProved l → All (λ p. is_promoted (bucket_of e s X).entries p ≡ false) l
+          → any (λ p. may_take (bucket_of e s X).entries p.endpoint) l ≡ false
       none [] a c = refl
       none (p ∷ l) a c =
-          let no : may_take (bucketOf e s X).entries p.endpoint ≡ false = rw a.0 at c.0 in
+          let no : may_take (bucket_of e s X).entries p.endpoint ≡ false = rw a.0 at c.0 in
           rw no (none l a.1 c.1)
 
-  stays-in-line : (X : Bytes) → Waits X (bucketOf e s X) → (c : Call) → Waits X (bucketOf e (next e s c) X) ⊎ ((t : ℕ) × AcceptedSweep e s c t)
+  stays-in-line : (X : Bytes) → Waits X (bucket_of e s X) → (c : Call) → Waits X (bucket_of e (next e s c) X) ⊎ ((t : ℕ) × AcceptedSweep e s c t)
   stays-in-line X w (datagram now unix address udp key bytes) =
       inl (by_test (same_bytes X key)
       (λ h.
-      let own : Waits key (bucketOf e s key) = rw (same_eq X key h) at w in
+      let own : Waits key (bucket_of e s key) = rw (same_eq X key h) at w in
       rw (same_eq X key h)
       (View.own-datagram e s ok.sized (Waits key) now unix address udp key bytes
-      (λ _. datagram-waits now key (bucketOf e s key) own (may-not-take key own) address udp (e.read bytes unix)) (λ _. own)))
+      (λ _. datagram-waits now key (bucket_of e s key) own (may-not-take key own) address udp (e.read bytes unix)) (λ _. own)))
       (λ h.
       let same = View.other-datagram e s ok.sized X key h now unix address udp bytes in
       record {
@@ -107,23 +107,23 @@ module _ (e : Env) (s : Table) (ok : TableSound e s) where
   stays-in-line X w (ping_sent now key address udp tcp hash) =
       inl (by_test (same_bytes X key)
       (λ h.
-      let own : Waits key (bucketOf e s key) = rw (same_eq X key h) at w in
+      let own : Waits key (bucket_of e s key) = rw (same_eq X key h) at w in
       rw (same_eq X key h)
-      (View.own-pingSent e s ok.sized (Waits key) now key address udp tcp hash
-      (λ _. pingSent-waits now key (bucketOf e s key) own address udp tcp hash) (λ _. own)))
+      (View.own_ping_sent e s ok.sized (Waits key) now key address udp tcp hash
+      (λ _. ping_sent_waits now key (bucket_of e s key) own address udp tcp hash) (λ _. own)))
       (λ h.
-      let same = View.other-pingSent e s ok.sized X key h now address udp tcp hash in
+      let same = View.other_ping_sent e s ok.sized X key h now address udp tcp hash in
       record {
         in_line = rw same.replacements w.in_line;
         is-proved = rw same.replacements w.is-proved;
         no-entry = rw same.entries w.no-entry;
       }))
   stays-in-line X w (sweep now) =
-      byAnswer e (λ s'. Waits X (bucketOf e s' X) ⊎ ((t : ℕ) × AcceptedSweep e s (sweep now) t)) s (sweep now)
+      by_answer e (λ s'. Waits X (bucket_of e s' X) ⊎ ((t : ℕ) × AcceptedSweep e s (sweep now) t)) s (sweep now)
       (λ a. inr (now, (refl, a)))
       (λ _. inl w)
   stays-in-line X w (closest target room) =
-      inl (byAnswer e (λ s'. Waits X (bucketOf e s' X)) s (closest target room) (λ _. w) (λ _. w))
+      inl (by_answer e (λ s'. Waits X (bucket_of e s' X)) s (closest target room) (λ _. w) (λ _. w))
   stays-in-line X w (unclocked c) = inl w
 
   -- ---- a sweep
@@ -133,12 +133,12 @@ module _ (e : Env) (s : Table) (ok : TableSound e s) where
       → length (entry_of e X (next e s (sweep t))) ≡ length (of_key X (promoted (kept_entries e t s X) (kept_replacements e t s X)))
   swept-entries X none t a =
       let seated = of_key X (promoted (kept_entries e t s X) (kept_replacements e t s X)) in
-      byAnswer e (λ s'. length (entry_of e X s') ≡ length seated) s (sweep t)
-      (λ _. rw (swept_bucket e s t (slot e X), (own-sweep X t (bucketOf e s X)).entries)
+      by_answer e (λ s'. length (entry_of e X s') ≡ length seated) s (sweep t)
+      (λ _. rw (swept_bucket e s t (slot e X), (own-sweep X t (bucket_of e s X)).entries)
       (simp length-append (omega (arith, none, length-select (stays_entry t) (entry_of e X s)))))
       (λ rejected. absurd (rejected a))
 
-  module _ (X : Bytes) (w : Waits X (bucketOf e s X)) (t : ℕ) where
+  module _ (X : Bytes) (w : Waits X (bucket_of e s X)) (t : ℕ) where
     abbrev taken : List Entry
     taken = kept_entries e t s X
 
@@ -147,22 +147,22 @@ module _ (e : Env) (s : Table) (ok : TableSound e s) where
 
     -- what a sweep at t keeps of the node is proved, and stands in line once
     line-proved : All IsProved (of_key X line)
-    line-proved = rw (ofKey-kept X t (bucketOf e s X)) (All-select IsProved (stays_replacement t) (replacementOf e X s) w.is-proved)
+    line-proved = rw (of_key_kept X t (bucket_of e s X)) (All-select IsProved (stays_replacement t) (replacement_of e X s) w.is-proved)
 
     line-once : length (of_key X line) ≤ 1
     line-once =
-        rw (ofKey-kept X t (bucketOf e s X))
-        (omega (arith, (ok.each (slot e X)).once X, length-select (stays_replacement t) (replacementOf e X s)))
+        rw (of_key_kept X t (bucket_of e s X))
+        (omega (arith, (ok.each (slot e X)).once X, length-select (stays_replacement t) (replacement_of e X s)))
 
     module _ (a : Accepted e s (sweep t)) where
-      swept-replacements : replacementOf e X (next e s (sweep t)) ≡ of_key X (remaining taken line)
+      swept-replacements : replacement_of e X (next e s (sweep t)) ≡ of_key X (remaining taken line)
       swept-replacements =
-          byAnswer e (λ s'. replacementOf e X s' ≡ of_key X (remaining taken line)) s (sweep t)
-          (λ _. rw (swept_bucket e s t (slot e X)) (own-sweep X t (bucketOf e s X)).replacements)
+          by_answer e (λ s'. replacement_of e X s' ≡ of_key X (remaining taken line)) s (sweep t)
+          (λ _. rw (swept_bucket e s t (slot e X)) (own-sweep X t (bucket_of e s X)).replacements)
           (λ rejected. absurd (rejected a))
 
       -- promoted, still in line, or not kept
-      after-sweep : HasEntry e X (next e s (sweep t)) ⊎ (Waits X (bucketOf e (next e s (sweep t)) X) ⊎ (length (of_key X line) ≡ 0))
+      after-sweep : HasEntry e X (next e s (sweep t)) ⊎ (Waits X (bucket_of e (next e s (sweep t)) X) ⊎ (length (of_key X line) ≡ 0))
       after-sweep =
           let split = promoted_or_remaining X taken line in
           let count = swept-entries X w.no-entry t a in
@@ -175,7 +175,7 @@ module _ (e : Env) (s : Table) (ok : TableSound e s) where
           let some = ltb-true 0 (length (of_key X line)) f in
           inl (record {
             in_line = rw swept-replacements (omega arith);
-            is-proved = rw swept-replacements (ofKey-remaining IsProved X taken line line-proved);
+            is-proved = rw swept-replacements (of_key-remaining IsProved X taken line line-proved);
             no-entry = omega arith;
           }))
           (λ f. inr (omega (arith, ltb-false 0 (length (of_key X line)) f)))))
@@ -189,19 +189,19 @@ log_proved e X log [] h k a = absurd (omega arith)
 log_proved e X log (p ∷ l) h k a = sym k.0.proved-is ∙ a.0
 
 module _ (e : Env) (r : Run e) (ok : TableSound e r.table) where
-  waits : ((X : Bytes) → KnownIn e X r.log (bucketOf e r.table X)) → (X : Bytes) → ProvedReplacement e X r → Waits X (bucketOf e r.table X)
+  waits : ((X : Bytes) → KnownIn e X r.log (bucket_of e r.table X)) → (X : Bytes) → ProvedReplacement e X r → Waits X (bucket_of e r.table X)
   waits known X w =
       record {
         in_line = w.0;
-        is-proved = All-imp (Known e X r.log) IsProved (λ p kn. kn.proved-is ∙ w.1) (replacementOf e X r.table) (known X).1;
+        is-proved = All-imp (Known e X r.log) IsProved (λ p kn. kn.proved-is ∙ w.1) (replacement_of e X r.table) (known X).1;
         no-entry = omega (arith, w.0, (ok.each (slot e X)).once X);
       }
 
-  pub waits-proved : ((X : Bytes) → KnownIn e X r.log (bucketOf e r.table X)) → (X : Bytes) → Waits X (bucketOf e r.table X) → ProvedReplacement e X r
+  pub waits-proved : ((X : Bytes) → KnownIn e X r.log (bucket_of e r.table X)) → (X : Bytes) → Waits X (bucket_of e r.table X) → ProvedReplacement e X r
   waits-proved known X w =
-      (w.in_line, log_proved e X r.log (replacementOf e X r.table) w.in_line (known X).1 w.is-proved)
+      (w.in_line, log_proved e X r.log (replacement_of e X r.table) w.in_line (known X).1 w.is-proved)
 
-  module _ (known : (X : Bytes) → KnownIn e X r.log (bucketOf e r.table X)) (c : Call) where
+  module _ (known : (X : Bytes) → KnownIn e X r.log (bucket_of e r.table X)) (c : Call) where
     pub leaves-replacements : LeavesReplacements e r c
     leaves-replacements X w gone =
         ⊎_elim (λ still. absurd (gone still.in_line)) (λ swept. swept) (stays-in-line e r.table ok X (waits known X w) c)
@@ -209,10 +209,10 @@ module _ (e : Env) (r : Run e) (ok : TableSound e r.table) where
     module _ (proofs : ProvedByPong e r) (in_order : InOrder e r) where
       -- the entries taken at X's turn are those that the sweep finds there
       ahead_before : (X : Bytes) (t : ℕ) → 0 < length (of_key X (kept_replacements e t r.table X))
-          → takenAhead e t r X ≡ takenBefore X (kept_entries e t r.table X) (kept_replacements e t r.table X)
-      unfolding takenBefore
+          → taken_ahead e t r X ≡ taken_before X (kept_entries e t r.table X) (kept_replacements e t r.table X)
+      unfolding taken_before
       ahead_before X t kept =
-          let b = bucketOf e r.table X in
+          let b = bucket_of e r.table X in
           let Kept_line = kept_replacements e t r.table X in
           let by_log : Entry → Bool = λ p. proved e r.log p.key in
           ap (taken_after (kept_entries e t r.table X))
@@ -236,7 +236,7 @@ module _ (e : Env) (r : Run e) (ok : TableSound e r.table) where
             let stay = kept_entries e t r.table X in
             let count = swept-entries e r.table ok X (waits known X w).no-entry t a in
             let kept : 0 < length (of_key X Kept_line) = omega (arith, promoted_or_remaining X stay Kept_line) in
-            let room : SeatFor X (takenAhead e t r X) Kept_line =
+            let room : SeatFor X (taken_ahead e t r X) Kept_line =
             rw (ahead_before X t kept) (promoted-room X stay Kept_line (line-once e r.table ok X (waits known X w) t) (omega arith)) in
             (t, swept.1, kept, room))
             (stays-in-line e r.table ok X (waits known X w) c),
@@ -246,7 +246,7 @@ module _ (e : Env) (r : Run e) (ok : TableSound e r.table) where
             let a : Accepted e r.table (sweep t) = rw is at at.1.1 in
             let Kept_line = kept_replacements e t r.table X in
             let stay = kept_entries e t r.table X in
-            let room : SeatFor X (takenBefore X stay Kept_line) Kept_line = rw (ahead_before X t at.2) at at.3 in
+            let room : SeatFor X (taken_before X stay Kept_line) Kept_line = rw (ahead_before X t at.2) at at.3 in
             rw is
             (omega (
               arith,
@@ -257,7 +257,7 @@ module _ (e : Env) (r : Run e) (ok : TableSound e r.table) where
 
     -- after a call: promoted, dropped by a sweep, or still in line
     pub stays : (X : Bytes) → ProvedReplacement e X r
-        → HasEntry e X (next e r.table c) ⊎ (Drops e X r c ⊎ Waits X (bucketOf e (next e r.table c) X))
+        → HasEntry e X (next e r.table c) ⊎ (Drops e X r c ⊎ Waits X (bucket_of e (next e r.table c) X))
     stays X w =
         ⊎_elim (λ still. inr (inr still))
         (λ swept.
@@ -278,5 +278,5 @@ module _ (e : Env) (r : Run e) (ok : TableSound e r.table) where
         let none : length (of_key X (kept_replacements e t' r.table X)) ≡ 0 = rw same at drop.2 in
         omega (arith, room.2)
 
-pub waits_no_entry : (e : Env) (X : Bytes) (s : Table) → Waits X (bucketOf e s X) → HasEntry e X s → ⊥
+pub waits_no_entry : (e : Env) (X : Bytes) (s : Table) → Waits X (bucket_of e s X) → HasEntry e X s → ⊥
 waits_no_entry e X s w has = omega (arith, w.no-entry)

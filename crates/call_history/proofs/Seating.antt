@@ -16,16 +16,16 @@ use Rattle.bucket_model.specs.Rules.{takes_entry, is_of, of_key, held, ponged, h
 use Rattle.bucket_model.specs.Facts.{SeatFor}
 use Rattle.bucket_model.proofs.Ranges.{takes_seat, seat_takes}
 use Rattle.bucket_model.proofs.Keys.{promoted_proved, promoted_or_remaining}
-use Rattle.bucket_model.proofs.View.{own-heard, own-pong-stays, own-pong-takes, own-joined, ofKey-kept}
-use Rattle.bucket_model.proofs.Promotion.{proved_entry, ofKey-promoted}
-use Rattle.call_history.specs.Model.{Env, Reading, Call, datagram, ping_sent, sweep, closest, unclocked, Table, slot, bucketOf, answer, Accepted, on_datagram, next, Run}
-use Rattle.call_history.specs.Words.{is_pong, entry_of, replacementOf, HasEntry, IsReplacement, AcceptedSweep, pong_from, ProvedReplacement, kept_entries, kept_replacements}
+use Rattle.bucket_model.proofs.View.{own-heard, own-pong-stays, own-pong-takes, own-joined, of_key_kept}
+use Rattle.bucket_model.proofs.Promotion.{proved_entry, of_key-promoted}
+use Rattle.call_history.specs.Model.{Env, Reading, Call, datagram, ping_sent, sweep, closest, unclocked, Table, slot, bucket_of, answer, Accepted, on_datagram, next, Run}
+use Rattle.call_history.specs.Words.{is_pong, entry_of, replacement_of, HasEntry, IsReplacement, AcceptedSweep, pong_from, ProvedReplacement, kept_entries, kept_replacements}
 use Rattle.call_history.specs.Demand3.{TakesEntry, ComesToEntry}
-use Rattle.call_history.proofs.Step.{by_datagram, byAnswer}
+use Rattle.call_history.proofs.Step.{by_datagram, by_answer}
 use Rattle.call_history.proofs.Sound.{TableSound}
 use Rattle.call_history.proofs.View as View
 use Rattle.call_history.proofs.Log.{Known, KnownIn}
-use Rattle.call_history.proofs.Entry.{count-mapped, pingSent-keeps}
+use Rattle.call_history.proofs.Entry.{count-mapped, ping_sent_keeps}
 use Rattle.call_history.proofs.Replacement.{swept-entries, log_proved}
 
 -- ---- the signer's bucket
@@ -59,14 +59,14 @@ module _ (now : ℕ) (key : Bytes) (b : Contents) (none : length (of_key key b.e
   ping-seats-none address udp tcp hash =
       by_test (empty (held key b))
       (λ g. rw (own-joined now key b address udp tcp hash g).entries)
-      (λ g. pingSent-keeps now key b address udp tcp hash g ∙ none)
+      (λ g. ping_sent_keeps now key b address udp tcp hash g ∙ none)
 
 -- ---- a call
 
 module _ (e : Env) (s : Table) (ok : TableSound e s) where
   -- an accepted pong from a waiting node, with a seat for it
   abbrev PongSeats : Bytes → Call → Type 0
-  PongSeats X c = IsReplacement e X s × (pong_from e X s c ≡ true) × SeatFor X (bucketOf e s X).entries (bucketOf e s X).replacements
+  PongSeats X c = IsReplacement e X s × (pong_from e X s c ≡ true) × SeatFor X (bucket_of e s X).entries (bucket_of e s X).replacements
 
   own-datagram : (now unix : ℕ) (address : Bytes) (udp : ℕ) (key bytes : Bytes) → length (entry_of e key s) ≡ 0
       → HasEntry e key (next e s (datagram now unix address udp key bytes)) → PongSeats key (datagram now unix address udp key bytes)
@@ -74,8 +74,8 @@ module _ (e : Env) (s : Table) (ok : TableSound e s) where
       let c = datagram now unix address udp key bytes in
       View.own-datagram e s ok.sized (λ b. 0 < length (of_key key b.entries) → PongSeats key c) now unix address udp key bytes
       (λ a has.
-      let is = datagram-seats now key (bucketOf e s key) none address udp (e.read bytes unix) has in
-      let b = bucketOf e s key in
+      let is = datagram-seats now key (bucket_of e s key) none address udp (e.read bytes unix) has in
+      let b = bucket_of e s key in
       let few : length (of_key key b.replacements) ≤ 1 = omega (arith, (ok.each (slot e key)).once key) in
       (is.1, rw (same_refl key, is.0, eq-eqb (answer e s c) 0 a), takes_seat key b.entries b.replacements few is.2))
       (λ _ has. absurd (omega arith))
@@ -95,16 +95,16 @@ module _ (e : Env) (s : Table) (ok : TableSound e s) where
         let own : length (entry_of e key s) ≡ 0 = rw is at none in
         let has' : HasEntry e key (next e s (ping_sent now key address udp tcp hash)) = rw is at has in
         let still : length (entry_of e key (next e s (ping_sent now key address udp tcp hash))) ≡ 0 =
-        View.own-pingSent e s ok.sized (λ b. length (of_key key b.entries) ≡ 0) now key address udp tcp hash
-        (λ _. ping-seats-none now key (bucketOf e s key) own address udp tcp hash) (λ _. own) in
+        View.own_ping_sent e s ok.sized (λ b. length (of_key key b.entries) ≡ 0) now key address udp tcp hash
+        (λ _. ping-seats-none now key (bucket_of e s key) own address udp tcp hash) (λ _. own) in
         omega arith)
-        (λ g. omega (arith, ap length (View.other-pingSent e s ok.sized X key g now address udp tcp hash).entries)))
+        (λ g. omega (arith, ap length (View.other_ping_sent e s ok.sized X key g now address udp tcp hash).entries)))
     comes (sweep now) =
-        byAnswer e (λ s'. HasEntry e X s' → PongSeats X (sweep now) ⊎ ((t : ℕ) × AcceptedSweep e s (sweep now) t)) s (sweep now)
+        by_answer e (λ s'. HasEntry e X s' → PongSeats X (sweep now) ⊎ ((t : ℕ) × AcceptedSweep e s (sweep now) t)) s (sweep now)
         (λ a has. inr (now, (refl, a)))
         (λ _ has. absurd (omega arith))
     comes (closest target room) =
-        byAnswer e (λ s'. HasEntry e X s' → PongSeats X (closest target room) ⊎ ((t : ℕ) × AcceptedSweep e s (closest target room) t)) s (closest target room)
+        by_answer e (λ s'. HasEntry e X s' → PongSeats X (closest target room) ⊎ ((t : ℕ) × AcceptedSweep e s (closest target room) t)) s (closest target room)
         (λ _ has. absurd (omega arith))
         (λ _ has. absurd (omega arith))
     comes (unclocked c) = λ has. absurd (omega arith)
@@ -119,32 +119,32 @@ module _ (e : Env) (s : Table) (ok : TableSound e s) where
         let own : PongSeats key c = rw is at p in
         rw is
         (View.own-datagram e s ok.sized (λ b. 0 < length (of_key key b.entries)) now unix address udp key bytes
-        (λ _. pong-seats now key (bucketOf e s key) (rw is at none) address udp r (and_left (is_pong r) (eqb (answer e s c) 0) rest) own.0
-        (seat_takes key (bucketOf e s key).entries (bucketOf e s key).replacements own.0 own.2))
+        (λ _. pong-seats now key (bucket_of e s key) (rw is at none) address udp r (and_left (is_pong r) (eqb (answer e s c) 0) rest) own.0
+        (seat_takes key (bucket_of e s key).entries (bucket_of e s key).replacements own.0 own.2))
         (λ rejected. absurd (rejected a)))
     pong-comes (ping_sent now key address udp tcp hash) p = never (sym p.1)
     pong-comes (sweep now) p = never (sym p.1)
     pong-comes (closest target room) p = never (sym p.1)
     pong-comes (unclocked c) p = never (sym p.1)
 
-module _ (e : Env) (r : Run e) (ok : TableSound e r.table) (known : (X : Bytes) → KnownIn e X r.log (bucketOf e r.table X)) where
+module _ (e : Env) (r : Run e) (ok : TableSound e r.table) (known : (X : Bytes) → KnownIn e X r.log (bucket_of e r.table X)) where
   -- what a sweep seats was in line, proved
   seated-proved : (X : Bytes) → length (entry_of e X r.table) ≡ 0 → (t : ℕ) → Accepted e r.table (sweep t)
       → HasEntry e X (next e r.table (sweep t)) → ProvedReplacement e X r
   seated-proved X none t a has =
-      let b = bucketOf e r.table X in
+      let b = bucket_of e r.table X in
       let kept-entries = kept_entries e t r.table X in
       let line = kept_replacements e t r.table X in
       let count = swept-entries e r.table ok X none t a in
       let kept : All (Known e X r.log) (of_key X line) =
-      rw (ofKey-kept X t b) (All-select (Known e X r.log) (stays_replacement t) (replacementOf e X r.table) (known X).1) in (
+      rw (of_key_kept X t b) (All-select (Known e X r.log) (stays_replacement t) (replacement_of e X r.table) (known X).1) in (
         omega (
           arith,
           promoted_or_remaining X kept-entries line,
-          ap length (ofKey-kept X t b),
-          length-select (stays_replacement t) (replacementOf e X r.table),
+          ap length (of_key_kept X t b),
+          length-select (stays_replacement t) (replacement_of e X r.table),
         ),
-        log_proved e X r.log (of_key X (promoted kept-entries line)) (omega arith) (ofKey-promoted (Known e X r.log) X kept-entries line kept)
+        log_proved e X r.log (of_key X (promoted kept-entries line)) (omega arith) (of_key-promoted (Known e X r.log) X kept-entries line kept)
             (All-select (λ p. proved_entry p ≡ true) (is_of X) (promoted kept-entries line) (promoted_proved kept-entries line)),
       )
 

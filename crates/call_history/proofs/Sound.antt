@@ -14,13 +14,13 @@ use Rattle.bucket_model.specs.Contents.{no_contents}
 use Rattle.bucket_model.specs.Rules.{on_ping_sent, on_sweep}
 use Rattle.bucket_model.proofs.Every.{Every}
 use Rattle.bucket_model.proofs.ByteForm.{IsContents}
-use Rattle.bucket_model.proofs.Values.{sound-contents, values-pingSent, values-pong, values-heard, values-sweep}
+use Rattle.bucket_model.proofs.Values.{sound-contents, values_ping_sent, values-pong, values-heard, values-sweep}
 use Rattle.bucket_model.proofs.Sound.{EntrySound, BucketSound}
-use Rattle.bucket_model.proofs.Kept.{sound-later, sound-fresh, sound-pingSent, sound-pong, sound-heard, sound-sweep}
-use Rattle.call_history.specs.Model.{Env, Lawful, Call, datagram, ping_sent, sweep, closest, unclocked, Table, slot, home_at, fresh, bucket_at, bucketOf, Accepted, on_datagram, effect, next, tableAfterAll}
+use Rattle.bucket_model.proofs.Kept.{sound-later, sound-fresh, sound_ping_sent, sound-pong, sound-heard, sound-sweep}
+use Rattle.call_history.specs.Model.{Env, Lawful, Call, datagram, ping_sent, sweep, closest, unclocked, Table, slot, home_at, fresh, bucket_at, bucket_of, Accepted, on_datagram, effect, next, table_after_all}
 use Rattle.call_history.specs.Words.{OwnBucket}
 use Rattle.call_history.specs.Chain.{IsCall}
-use Rattle.call_history.proofs.Step.{by_datagram, byAnswer, home-own, slot-home, datagram-keyed, ping-allowed, sweep-in-time, byBucket, swept_bucket, fresh-bucket}
+use Rattle.call_history.proofs.Step.{by_datagram, by_answer, home-own, slot-home, datagram-keyed, ping-allowed, sweep-in-time, by_bucket, swept_bucket, fresh-bucket}
 
 module _ (e : Env) where
   pub record TableSound (s : Table) : Type 0 where
@@ -86,7 +86,7 @@ module _ (e : Env) where
     effect-sound : (c : Call) → Accepted e s c → TableSound (effect e s c)
     effect-sound (datagram now unix address udp key bytes) h =
         let r = e.read bytes unix in
-        let b = bucketOf e s key in
+        let b = bucket_of e s key in
         let keyed = datagram-keyed e s now unix address udp key bytes h in
         let home = home_at e (slot e key) in
         let was = later now keyed.in_time in
@@ -94,7 +94,7 @@ module _ (e : Env) where
           lawful = ok.lawful;
           sized = length-modify (slot e key) (on_datagram now address udp key r) s.buckets ∙ ok.sized;
           each =
-              byBucket e s ok.sized now key (on_datagram now address udp key r) keyed.is_kept (λ i. BucketSound (home_at e i) now)
+              by_bucket e s ok.sized now key (on_datagram now address udp key r) keyed.is_kept (λ i. BucketSound (home_at e i) now)
               (by_datagram (BucketSound home now) now address udp key r b
               (λ _. was (slot e key))
               (λ _. sound-heard home now key b (was (slot e key)))
@@ -109,8 +109,8 @@ module _ (e : Env) where
           lawful = ok.lawful;
           sized = length-modify (slot e key) (on_ping_sent now key address udp tcp hash) s.buckets ∙ ok.sized;
           each =
-              byBucket e s ok.sized now key (on_ping_sent now key address udp tcp hash) keyed.is_kept (λ i. BucketSound (home_at e i) now)
-              (sound-pingSent (home_at e (slot e key)) now key address udp tcp hash (bucketOf e s key) (was (slot e key))
+              by_bucket e s ok.sized now key (on_ping_sent now key address udp tcp hash) keyed.is_kept (λ i. BucketSound (home_at e i) now)
+              (sound_ping_sent (home_at e (slot e key)) now key address udp tcp hash (bucket_of e s key) (was (slot e key))
               (slot-home e ok.lawful key keyed.not_own keyed.is_kept) keyed.address-form allowed.room)
               (λ i _. was i);
         }
@@ -124,18 +124,18 @@ module _ (e : Env) where
     effect-sound (unclocked c) h = ok
 
     pub next-sound : (c : Call) → TableSound (next e s c)
-    next-sound c = byAnswer e TableSound s c (effect-sound c) (λ _. ok)
+    next-sound c = by_answer e TableSound s c (effect-sound c) (λ _. ok)
 
     module _ (values : IsTable s) where
       effect-values : (c : Call) → IsCall c → Accepted e s c → IsTable (effect e s c)
       effect-values (datagram now unix address udp key bytes) is h =
           let r = e.read bytes unix in
-          let b = bucketOf e s key in
+          let b = bucket_of e s key in
           let was = values.each (slot e key) in
           record {
             clock = is.0;
             each =
-                byBucket e s ok.sized now key (on_datagram now address udp key r)
+                by_bucket e s ok.sized now key (on_datagram now address udp key r)
                 (datagram-keyed e s now unix address udp key bytes h).is_kept (λ i. Every IsEntry)
                 (by_datagram (Every IsEntry) now address udp key r b
                 (λ _. was)
@@ -149,8 +149,8 @@ module _ (e : Env) where
           record {
             clock = is.0;
             each =
-                byBucket e s ok.sized now key (on_ping_sent now key address udp tcp hash) keyed.is_kept (λ i. Every IsEntry)
-                (values-pingSent now is.0 (bucketOf e s key) (values.each (slot e key)) key address udp tcp hash
+                by_bucket e s ok.sized now key (on_ping_sent now key address udp tcp hash) keyed.is_kept (λ i. Every IsEntry)
+                (values_ping_sent now is.0 (bucket_of e s key) (values.each (slot e key)) key address udp tcp hash
                 keyed.whole keyed.address-form is.3 is.4 allowed.hash-whole)
                 (λ i _. values.each i);
           }
@@ -163,9 +163,9 @@ module _ (e : Env) where
       effect-values (unclocked c) is h = values
 
       pub next-values : (c : Call) → IsCall c → IsTable (next e s c)
-      next-values c is = byAnswer e IsTable s c (effect-values c is) (λ _. values)
+      next-values c is = by_answer e IsTable s c (effect-values c is) (λ _. values)
 
   -- every list of calls leaves a sound table
-  pub sound-after : (s : Table) (cs : List Call) → TableSound s → TableSound (tableAfterAll e s cs)
+  pub sound-after : (s : Table) (cs : List Call) → TableSound s → TableSound (table_after_all e s cs)
   sound-after s [] ok = ok
   sound-after s (c ∷ cs) ok = sound-after (next e s c) cs (next-sound s ok c)

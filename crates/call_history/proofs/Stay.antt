@@ -16,11 +16,11 @@ use Rattle.entry.specs.declared.Entry.{Entry}
 use Rattle.bucket_model.specs.Contents.{Contents}
 use Rattle.bucket_model.specs.Rules.{takes_entry, is_of, of_key, held, is_proved, pinged, ponged, heard, stays_replacement, on_ping_sent, on_pong, on_heard}
 use Rattle.bucket_model.proofs.Keys.{promoted_or_remaining}
-use Rattle.bucket_model.proofs.View.{Mapped, kept_entries, kept_replacements, own-heard, own-pong-stays, own-pong-takes, own-pinged, own-joined, own-sweep, ofKey-kept}
-use Rattle.call_history.specs.Model.{Env, Reading, Call, datagram, ping_sent, sweep, closest, unclocked, Table, slot, bucket_at, bucketOf, answer, on_datagram, next, Run, advance}
-use Rattle.call_history.specs.Words.{OwnBucket, replacementOf, IsReplacement, begins, proved}
+use Rattle.bucket_model.proofs.View.{Mapped, kept_entries, kept_replacements, own-heard, own-pong-stays, own-pong-takes, own-pinged, own-joined, own-sweep, of_key_kept}
+use Rattle.call_history.specs.Model.{Env, Reading, Call, datagram, ping_sent, sweep, closest, unclocked, Table, slot, bucket_at, bucket_of, answer, on_datagram, next, Run, advance}
+use Rattle.call_history.specs.Words.{OwnBucket, replacement_of, IsReplacement, begins, proved}
 use Rattle.call_history.specs.Demand3.{StayBegins, StayLasts, ProvedByPong}
-use Rattle.call_history.proofs.Step.{by_datagram, byAnswer, swept_bucket}
+use Rattle.call_history.proofs.Step.{by_datagram, by_answer, swept_bucket}
 use Rattle.call_history.proofs.Sound.{TableSound, own-buckets}
 use Rattle.call_history.proofs.View as View
 use Rattle.call_history.proofs.Log.{Known, KnownIn}
@@ -50,53 +50,53 @@ module _ (now : ℕ) (key : Bytes) (b : Contents) (none : length (of_key key b.r
 
 module _ (e : Env) (s : Table) (ok : TableSound e s) (X : Bytes) where
   -- a call that begins no stay of X puts X into no line
-  stays_out : length (replacementOf e X s) ≡ 0 → (c : Call) → begins e X s c ≡ false → length (replacementOf e X (next e s c)) ≡ 0
+  stays_out : length (replacement_of e X s) ≡ 0 → (c : Call) → begins e X s c ≡ false → length (replacement_of e X (next e s c)) ≡ 0
   stays_out none (datagram now unix address udp key bytes) h =
       by_test (same_bytes X key)
       (λ g.
-      let own : length (replacementOf e key s) ≡ 0 = rw (same_eq X key g) at none in
+      let own : length (replacement_of e key s) ≡ 0 = rw (same_eq X key g) at none in
       rw (same_eq X key g)
       (View.own-datagram e s ok.sized (λ b. length (of_key key b.replacements) ≡ 0) now unix address udp key bytes
-      (λ _. datagram-none now key (bucketOf e s key) own address udp (e.read bytes unix)) (λ _. own)))
+      (λ _. datagram-none now key (bucket_of e s key) own address udp (e.read bytes unix)) (λ _. own)))
       (λ g. rw (View.other-datagram e s ok.sized X key g now unix address udp bytes).replacements none)
   stays_out none (ping_sent now key address udp tcp hash) h =
       let c = ping_sent now key address udp tcp hash in
       by_test (same_bytes X key)
       (λ g.
-      let own : length (replacementOf e key s) ≡ 0 = rw (same_eq X key g) at none in
+      let own : length (replacement_of e key s) ≡ 0 = rw (same_eq X key g) at none in
       rw (same_eq X key g)
-      (View.own-pingSent e s ok.sized (λ b. length (of_key key b.replacements) ≡ 0) now key address udp tcp hash
+      (View.own_ping_sent e s ok.sized (λ b. length (of_key key b.replacements) ≡ 0) now key address udp tcp hash
       (λ a.
-      let old : empty (held key (bucketOf e s key)) ≡ false = rw (g, eq-eqb (answer e s c) 0 a) at h in
-      pinged-none now key (bucketOf e s key) own address udp tcp hash old)
+      let old : empty (held key (bucket_of e s key)) ≡ false = rw (g, eq-eqb (answer e s c) 0 a) at h in
+      pinged-none now key (bucket_of e s key) own address udp tcp hash old)
       (λ _. own)))
-      (λ g. rw (View.other-pingSent e s ok.sized X key g now address udp tcp hash).replacements none)
+      (λ g. rw (View.other_ping_sent e s ok.sized X key g now address udp tcp hash).replacements none)
   stays_out none (sweep now) h =
-      let b = bucketOf e s X in
-      byAnswer e (λ s'. length (replacementOf e X s') ≡ 0) s (sweep now)
+      let b = bucket_of e s X in
+      by_answer e (λ s'. length (replacement_of e X s') ≡ 0) s (sweep now)
       (λ _. rw (swept_bucket e s now (slot e X), (own-sweep X now b).replacements)
       (omega (
         arith,
         promoted_or_remaining X (kept_entries now b) (kept_replacements now b),
-        ap length (ofKey-kept X now b),
+        ap length (of_key_kept X now b),
         length-select (stays_replacement now) (of_key X b.replacements),
       )))
       (λ _. none)
   stays_out none (closest target room) h =
-      byAnswer e (λ s'. length (replacementOf e X s') ≡ 0) s (closest target room) (λ _. none) (λ _. none)
+      by_answer e (λ s'. length (replacement_of e X s') ≡ 0) s (closest target room) (λ _. none) (λ _. none)
   stays_out none (unclocked c) h = none
 
   joins : (c : Call) → begins e X s c ≡ true → IsReplacement e X (next e s c)
   joins (datagram now unix address udp key bytes) h = never (sym h)
   joins (ping_sent now key address udp tcp hash) h =
       let c = ping_sent now key address udp tcp hash in
-      let b = bucketOf e s key in
+      let b = bucket_of e s key in
       let is = same_eq X key (and_left (same_bytes X key) (eqb (answer e s c) 0 && empty (held key b)) h) in
       let rest = and_right (same_bytes X key) (eqb (answer e s c) 0 && empty (held key b)) h in
       let new = and_right (eqb (answer e s c) 0) (empty (held key b)) rest in
       let a = eqb-true (answer e s c) 0 (and_left (eqb (answer e s c) 0) (empty (held key b)) rest) in
       rw is
-      (View.own-pingSent e s ok.sized (λ b. 0 < length (of_key key b.replacements)) now key address udp tcp hash
+      (View.own_ping_sent e s ok.sized (λ b. 0 < length (of_key key b.replacements)) now key address udp tcp hash
       (λ _. rw (own-joined now key b address udp tcp hash new).replacements (omega arith))
       (λ rejected. absurd (rejected a)))
   joins (sweep now) h = never (sym h)
@@ -109,19 +109,19 @@ stay_begins e r ok c X out = (
       by_test (begins e X r.table c)
       (λ g. g)
       (λ g.
-      let none : length (replacementOf e X r.table) ≡ 0 = omega arith in
+      let none : length (replacement_of e X r.table) ≡ 0 = omega arith in
       absurd (omega (arith, stays_out e r.table ok X none c g, now-in))),
   λ h. joins e r.table ok X c h,
 )
 
 pub stay_lasts : (e : Env) (r : Run e) → TableSound e r.table → StayLasts e r → (c : Call) → StayLasts e (advance e r c)
 stay_lasts e r ok lasts c X in_line =
-    by_test (ltb 0 (length (replacementOf e X r.table)))
+    by_test (ltb 0 (length (replacement_of e X r.table)))
     (λ g.
-    let was : IsReplacement e X r.table = ltb-true 0 (length (replacementOf e X r.table)) g in
+    let was : IsReplacement e X r.table = ltb-true 0 (length (replacement_of e X r.table)) g in
     inr (was, lasts X was))
     (λ g.
-    let out = ltb-false 0 (length (replacementOf e X r.table)) g in
+    let out = ltb-false 0 (length (replacement_of e X r.table)) g in
     inl ((stay_begins e r ok c X (λ was. omega arith)).0 in_line))
 
 -- ---- the proofs of a line
@@ -140,11 +140,11 @@ each_own C P (p ∷ l) h c =
         (λ g. let all : All (P X) (p ∷ of_key X l) = rw g at (h X x) in all.1)
         (λ g. rw g at (h X x))
 
-pub proved_by_pong : (e : Env) (r : Run e) → TableSound e r.table → ((X : Bytes) → KnownIn e X r.log (bucketOf e r.table X))
+pub proved_by_pong : (e : Env) (r : Run e) → TableSound e r.table → ((X : Bytes) → KnownIn e X r.log (bucket_of e r.table X))
     → ProvedByPong e r
 proved_by_pong e r ok known i =
     let line = (bucket_at e r.table i).replacements in
     each_own (λ X. slot e X ≡ i) (λ X p. is_proved p.proof ≡ proved e r.log X) line
     (λ X is. rw is at
-    (All-imp (Known e X r.log) (λ p. is_proved p.proof ≡ proved e r.log X) (λ p kn. kn.proved-is) (replacementOf e X r.table) (known X).1))
+    (All-imp (Known e X r.log) (λ p. is_proved p.proof ≡ proved e r.log X) (λ p kn. kn.proved-is) (replacement_of e X r.table) (known X).1))
     (All-imp (λ p. OwnBucket e i p.key) (λ p. slot e p.key ≡ i) (λ p own. own.2) line (own-buckets e r.table ok i).1)

@@ -12,13 +12,13 @@ use Rattle.node.specs.Nodes.{is_address}
 use Rattle.octets.specs.Octets.{Bytes, IsBytes, same_bytes}
 use Rattle.octets.proofs.Laws.{same_refl}
 use Rattle.lists.specs.Lists.{modify}
-use Rattle.lists.proofs.Laws.{by_test, never, Passed, numbered, passed, getD-modify-same, getD-modify-other, get_d_map}
+use Rattle.lists.proofs.Laws.{by_test, never, Passed, numbered, passed, get_d_modify_same, get_d_modify_other, get_d_map}
 use Rattle.bucket_model.specs.Contents.{Contents, no_contents}
 use Rattle.bucket_model.specs.Rules.{not_verified, ping_out, no_room, on_pong, on_heard, on_sweep}
 use Rattle.bucket_model.proofs.Sound.{IsAddress}
 use Rattle.keccak.proofs.Laws.{keccak256-length, keccak256_bytes}
 use Rattle.distance.specs.Distance.{bit_length, home}
-use Rattle.call_history.specs.Model.{Env, Lawful, Fault, wrongLength, wrongHash, unknownType, badList, badField, expired, Reading, is_refused, refused, ping, pong, other, Call, datagram, ping_sent, sweep, Table, isOwn, distance_to, bucketNumber, firstKept, isKept, slot, home_at, fresh, bucket_at, bucketOf, packetRefusals, datagramRefusals, pingSentRefusals, answer, Accepted, on_datagram, effect, next}
+use Rattle.call_history.specs.Model.{Env, Lawful, Fault, wrong_length, wrong_hash, unknown_type, bad_list, bad_field, expired, Reading, is_refused, refused, ping, pong, other, Call, datagram, ping_sent, sweep, Table, is_own, distance_to, bucket_number, first_kept, is_kept, slot, home_at, fresh, bucket_at, bucket_of, packet_refusals, datagram_refusals, ping_sent_refusals, answer, Accepted, on_datagram, effect, next}
 use Rattle.call_history.specs.Keccak.{with_keccak}
 use Rattle.call_history.specs.Words.{is_pong, OwnBucket}
 use Rattle.distance.proofs.Laws.{distance-less, distance-zero, bit_length_positive, bit_length-most}
@@ -44,16 +44,16 @@ pub by_datagram : (P : Contents → Type 0) (now : ℕ) (address : Bytes) (udp :
 by_datagram P now address udp key r b f g h =
     by_packet P now address udp key r b (λ fault is. f (rw is)) (λ no _. f no) (λ no _. g no) h
 
-is_address : (address : Bytes) → is_address address ≡ true → IsAddress address
-is_address address =
+is_address_lem : (address : Bytes) → is_address address ≡ true → IsAddress address
+is_address_lem address =
     by_test (eqb (length address) 4)
     (λ g. λ h. inl (eqb-true (length address) 4 g))
     (λ g. rw g (λ h. inr (eqb-true (length address) 16 h)))
 
 module _ (e : Env) where
   -- a proof of what a call leaves, by whether it is accepted
-  pub byAnswer : (P : Table → Type 0) (s : Table) (c : Call) → (Accepted e s c → P (effect e s c)) → ((Accepted e s c → ⊥) → P s) → P (next e s c)
-  byAnswer P s c f g =
+  pub by_answer : (P : Table → Type 0) (s : Table) (c : Call) → (Accepted e s c → P (effect e s c)) → ((Accepted e s c → ⊥) → P s) → P (next e s c)
+  by_answer P s c f g =
       by_test (eqb (answer e s c) 0)
       (λ h. rw h (f (eqb-true (answer e s c) 0 h)))
       (λ h. rw h (g (eqb-false (answer e s c) 0 h)))
@@ -65,39 +65,39 @@ module _ (e : Env) where
     less = distance-less e.own (e.hash key) law.own_size (law.hash_size _) law.own_bytes (law.hash_bytes _)
 
     pub home-own : (i : ℕ) → home_at e i key ≡ true → OwnBucket e i key
-    unfolding bucketNumber
+    unfolding bucket_number
     home-own i h =
-        let bits : bit_length (distance_to e key) ≡ firstKept e + i + 1 =
-        eqb-true (bit_length (distance_to e key)) (firstKept e + i + 1) (sym (in_bucket_bits (firstKept e + i) (distance_to e key) less) ∙ h) in
-        (h, le-leb (firstKept e) (bucketNumber e key) (omega arith), omega arith)
+        let bits : bit_length (distance_to e key) ≡ first_kept e + i + 1 =
+        eqb-true (bit_length (distance_to e key)) (first_kept e + i + 1) (sym (in_bucket_bits (first_kept e + i) (distance_to e key) less) ∙ h) in
+        (h, le-leb (first_kept e) (bucket_number e key) (omega arith), omega arith)
 
-    apart : isOwn e key ≡ false → distance_to e key ≡ 0 → ⊥
+    apart : is_own e key ≡ false → distance_to e key ≡ 0 → ⊥
     apart not_own none =
         let same : e.own ≡ e.hash key =
         distance-zero e.own (e.hash key) law.own_size (law.hash_size _) law.own_bytes (law.hash_bytes _) none in
-        let is_own : isOwn e key ≡ true = ap (λ h. same_bytes h e.own) (sym same) ∙ same_refl e.own in
-        never (sym is_own ∙ not_own)
+        let own_key : is_own e key ≡ true = ap (λ h. same_bytes h e.own) (sym same) ∙ same_refl e.own in
+        never (sym own_key ∙ not_own)
 
-    pub slot-home : isOwn e key ≡ false → isKept e key ≡ true → home_at e (slot e key) key ≡ true
-    unfolding bucketNumber
+    pub slot-home : is_own e key ≡ false → is_kept e key ≡ true → home_at e (slot e key) key ≡ true
+    unfolding bucket_number
     slot-home not_own is_kept =
         let d = distance_to e key in
         let apart_is = apart not_own in
         let bits = bit_length_positive d (omega arith) less in
-        let kept = leb-true (firstKept e) (bucketNumber e key) is_kept in
-        in_bucket_bits (firstKept e + slot e key) d less
-        ∙ eq-eqb (bit_length d) (firstKept e + slot e key + 1) (omega arith)
+        let kept = leb-true (first_kept e) (bucket_number e key) is_kept in
+        in_bucket_bits (first_kept e + slot e key) d less
+        ∙ eq-eqb (bit_length d) (first_kept e + slot e key + 1) (omega arith)
 
-  pub slot-less : (key : Bytes) → isKept e key ≡ true → slot e key < e.kept
-  unfolding bucketNumber
+  pub slot-less : (key : Bytes) → is_kept e key ≡ true → slot e key < e.kept
+  unfolding bucket_number
   slot-less key is_kept =
-      let kept = leb-true (firstKept e) (bucketNumber e key) is_kept in
+      let kept = leb-true (first_kept e) (bucket_number e key) is_kept in
       omega (arith, bit_length-most (distance_to e key))
 
   -- ---- what an accepted call has passed
 
   packet-numbered : (now : ℕ) (address : Bytes) (udp : ℕ) (key : Bytes) (r : Reading) (b : Contents)
-      → numbered (packetRefusals e now address udp key r b) ≡ true
+      → numbered (packet_refusals e now address udp key r b) ≡ true
   packet-numbered now address udp key (refused fault) b = refl
   packet-numbered now address udp key ping b = refl
   packet-numbered now address udp key (pong hash) b = refl
@@ -108,65 +108,65 @@ module _ (e : Env) where
     pub in_time : s.clock ≤ now
     pub whole : length key ≡ 64
     pub address-form : IsAddress address
-    pub not_own : isOwn e key ≡ false
-    pub is_kept : isKept e key ≡ true
+    pub not_own : is_own e key ≡ false
+    pub is_kept : is_kept e key ≡ true
 
   pub datagram-keyed : (s : Table) (now unix : ℕ) (address : Bytes) (udp : ℕ) (key bytes : Bytes)
       → Accepted e s (datagram now unix address udp key bytes) → Keyed s now key address
-  unfolding datagramRefusals
+  unfolding datagram_refusals
   datagram-keyed s now unix address udp key bytes h =
       let r = e.read bytes unix in
-      let b = bucketOf e s key in
-      let facts : Passed (datagramRefusals e s.clock b now address udp key r) =
-      passed (datagramRefusals e s.clock b now address udp key r) (packet-numbered now address udp key r b) h in
+      let b = bucket_of e s key in
+      let facts : Passed (datagram_refusals e s.clock b now address udp key r) =
+      passed (datagram_refusals e s.clock b now address udp key r) (packet-numbered now address udp key r b) h in
       record {
         in_time = ltb-false now s.clock facts.0;
         whole = eqb-true (length key) 64 (not-false (eqb (length key) 64) facts.1.1.1.0);
-        address-form = is_address address (not-false (is_address address) facts.1.1.1.1.0);
+        address-form = is_address_lem address (not-false (is_address address) facts.1.1.1.1.0);
         not_own = facts.1.1.1.1.1.0;
-        is_kept = not-false (isKept e key) facts.1.1.1.1.1.1.1.1.1.1.0;
+        is_kept = not-false (is_kept e key) facts.1.1.1.1.1.1.1.1.1.1.0;
       }
 
   -- it is read
   pub datagram-read : (s : Table) (now unix : ℕ) (address : Bytes) (udp : ℕ) (key bytes : Bytes)
       → Accepted e s (datagram now unix address udp key bytes) → (fault : Fault) → e.read bytes unix ≡ refused fault → ⊥
-  unfolding datagramRefusals
+  unfolding datagram_refusals
   datagram-read s now unix address udp key bytes h fault is =
       let r = e.read bytes unix in
-      let b = bucketOf e s key in
-      let facts : Passed (datagramRefusals e s.clock b now address udp key r) =
-      passed (datagramRefusals e s.clock b now address udp key r) (packet-numbered now address udp key r b) h in
+      let b = bucket_of e s key in
+      let facts : Passed (datagram_refusals e s.clock b now address udp key r) =
+      passed (datagram_refusals e s.clock b now address udp key r) (packet-numbered now address udp key r b) h in
       go fault is facts
     where
       go : (fault : Fault) → e.read bytes unix ≡ refused fault
-          → Passed (datagramRefusals e s.clock (bucketOf e s key) now address udp key (e.read bytes unix)) → ⊥
-      go wrongLength is facts = never (sym (ap (is_refused 3) is) ∙ facts.1.0)
-      go wrongHash is facts = never (sym (ap (is_refused 4) is) ∙ facts.1.1.0)
-      go unknownType is facts = never (sym (ap (is_refused 8) is) ∙ facts.1.1.1.1.1.1.0)
-      go badList is facts = never (sym (ap (is_refused 9) is) ∙ facts.1.1.1.1.1.1.1.0)
-      go badField is facts = never (sym (ap (is_refused 10) is) ∙ facts.1.1.1.1.1.1.1.1.0)
+          → Passed (datagram_refusals e s.clock (bucket_of e s key) now address udp key (e.read bytes unix)) → ⊥
+      go wrong_length is facts = never (sym (ap (is_refused 3) is) ∙ facts.1.0)
+      go wrong_hash is facts = never (sym (ap (is_refused 4) is) ∙ facts.1.1.0)
+      go unknown_type is facts = never (sym (ap (is_refused 8) is) ∙ facts.1.1.1.1.1.1.0)
+      go bad_list is facts = never (sym (ap (is_refused 9) is) ∙ facts.1.1.1.1.1.1.1.0)
+      go bad_field is facts = never (sym (ap (is_refused 10) is) ∙ facts.1.1.1.1.1.1.1.1.0)
       go expired is facts = never (sym (ap (is_refused 11) is) ∙ facts.1.1.1.1.1.1.1.1.1.0)
 
   pub record PingAllowed (s : Table) (now : ℕ) (key address hash : Bytes) : Type 0 where
     pub keyed : Keyed s now key address
     pub hash-whole : length hash ≡ 32
-    pub none_out : ping_out key (bucketOf e s key) ≡ false
-    pub room : no_room key (bucketOf e s key) ≡ false
+    pub none_out : ping_out key (bucket_of e s key) ≡ false
+    pub room : no_room key (bucket_of e s key) ≡ false
 
   pub ping-allowed : (s : Table) (now : ℕ) (key address : Bytes) (udp tcp : ℕ) (hash : Bytes)
       → Accepted e s (ping_sent now key address udp tcp hash) → PingAllowed s now key address hash
-  unfolding pingSentRefusals
+  unfolding ping_sent_refusals
   ping-allowed s now key address udp tcp hash a =
-      let b = bucketOf e s key in
-      let facts : Passed (pingSentRefusals e s.clock b now key address udp hash) =
-      passed (pingSentRefusals e s.clock b now key address udp hash) refl a in
+      let b = bucket_of e s key in
+      let facts : Passed (ping_sent_refusals e s.clock b now key address udp hash) =
+      passed (ping_sent_refusals e s.clock b now key address udp hash) refl a in
       record {
         keyed = record {
           in_time = ltb-false now s.clock facts.0;
           whole = eqb-true (length key) 64 (not-false (eqb (length key) 64) facts.1.1.0);
-          address-form = is_address address (not-false (is_address address) facts.1.1.1.0);
+          address-form = is_address_lem address (not-false (is_address address) facts.1.1.1.0);
           not_own = facts.1.1.1.1.0;
-          is_kept = not-false (isKept e key) facts.1.1.1.1.1.0;
+          is_kept = not-false (is_kept e key) facts.1.1.1.1.1.0;
         };
         hash-whole = eqb-true (length hash) 32 (not-false (eqb (length hash) 32) facts.1.0);
         none_out = facts.1.1.1.1.1.1.1.0;
@@ -181,21 +181,21 @@ module _ (e : Env) where
 
   -- ---- the buckets of the table that a call leaves
 
-  module _ (s : Table) (sized : length s.buckets ≡ e.kept) (now : ℕ) (key : Bytes) (f : Contents → Contents) (is_kept : isKept e key ≡ true) where
+  module _ (s : Table) (sized : length s.buckets ≡ e.kept) (now : ℕ) (key : Bytes) (f : Contents → Contents) (is_kept : is_kept e key ≡ true) where
     -- the table with f applied to the key's bucket
     abbrev pub changed : Table
     changed = record { clock = now; buckets = modify (slot e key) f s.buckets }
 
-    pub own-bucket : bucketOf e changed key ≡ f (bucketOf e s key)
-    own-bucket = getD-modify-same (slot e key) f s.buckets no_contents (omega (arith, slot-less key is_kept))
+    pub own-bucket : bucket_of e changed key ≡ f (bucket_of e s key)
+    own-bucket = get_d_modify_same (slot e key) f s.buckets no_contents (omega (arith, slot-less key is_kept))
 
     pub other-bucket : (i : ℕ) → (i ≡ slot e key → ⊥) → bucket_at e changed i ≡ bucket_at e s i
-    other-bucket i h = getD-modify-other i (slot e key) f s.buckets no_contents h
+    other-bucket i h = get_d_modify_other i (slot e key) f s.buckets no_contents h
 
     -- what holds of each bucket, by whether it is the key's
-    pub byBucket : (P : ℕ → Contents → Type 0) → P (slot e key) (f (bucketOf e s key)) → ((i : ℕ) → (i ≡ slot e key → ⊥) → P i (bucket_at e s i))
+    pub by_bucket : (P : ℕ → Contents → Type 0) → P (slot e key) (f (bucket_of e s key)) → ((i : ℕ) → (i ≡ slot e key → ⊥) → P i (bucket_at e s i))
         → (i : ℕ) → P i (bucket_at e changed i)
-    byBucket P here there i =
+    by_bucket P here there i =
         by_test (eqb i (slot e key))
         (λ g. rw (eqb-true i (slot e key) g, own-bucket) here)
         (λ g. rw (other-bucket i (eqb-false i (slot e key) g)) (there i (eqb-false i (slot e key) g)))

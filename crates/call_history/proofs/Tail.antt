@@ -18,10 +18,10 @@ use Rattle.bucket_model.specs.Rules.{takes_entry, is_promoted, is_of, of_key, wi
 use Rattle.bucket_model.proofs.Keys.{All-promoted}
 use Rattle.bucket_model.proofs.View.{kept_replacements, own-heard, own-pong-stays, own-pong-takes}
 use Rattle.bucket_model.proofs.Promotion.{Below}
-use Rattle.call_history.specs.Model.{Env, Call, datagram, ping_sent, sweep, closest, unclocked, Table, slot, bucket_at, bucketOf, answer, Accepted, on_datagram, next, Event, Run, advance}
-use Rattle.call_history.specs.Words.{OwnBucket, entry_of, pong_from, begins, began, heardFrom, tails, TailedBefore}
+use Rattle.call_history.specs.Model.{Env, Call, datagram, ping_sent, sweep, closest, unclocked, Table, slot, bucket_at, bucket_of, answer, Accepted, on_datagram, next, Event, Run, advance}
+use Rattle.call_history.specs.Words.{OwnBucket, entry_of, pong_from, begins, began, heard_from, tails, TailedBefore}
 use Rattle.call_history.specs.Demand3.{InOrder, EntriesInOrder}
-use Rattle.call_history.proofs.Step.{by_packet, byAnswer, datagram-keyed, datagram-read, ping-allowed, byBucket, swept_bucket}
+use Rattle.call_history.proofs.Step.{by_packet, by_answer, datagram-keyed, datagram-read, ping-allowed, by_bucket, swept_bucket}
 use Rattle.call_history.proofs.Sound.{TableSound, own-buckets, next-sound}
 use Rattle.call_history.proofs.Entry.{is_held}
 use Rattle.call_history.proofs.Order.{other_key, latest-le, none-away}
@@ -118,7 +118,7 @@ module _ (e : Env) where
       by_test (same_bytes X key)
       (λ g.
       let own : empty (entry_of e key s) ≡ false = rw (same_eq X key g) at h in
-      rw (is_held now key (bucketOf e s key) (some (entry_of e key s) own)) (simp and-false))
+      rw (is_held now key (bucket_of e s key) (some (entry_of e key s) own)) (simp and-false))
       (λ g. rw g)
   no_start s X h (sweep now) = refl
   no_start s X h (closest target room) = refl
@@ -127,11 +127,11 @@ module _ (e : Env) where
   -- ---- the entries after a call: those that keep their numbers, and after them those that it puts at the tail
 
   module _ (r : Run e) (c : Call) where
-    abbrev theLog : List (Event e)
-    theLog = record { given = r.table; call = c } ∷ r.log
+    abbrev the_log : List (Event e)
+    the_log = record { given = r.table; call = c } ∷ r.log
 
     abbrev moves : Bytes → Bool
-    moves X = pong_from e X r.table c || heardFrom e X r.table c
+    moves X = pong_from e X r.table c || heard_from e X r.table c
 
     abbrev Stays : Entry → Type 0
     Stays p = (tails e p.key r.table c ≡ false) × (begins e p.key r.table c ≡ false)
@@ -145,16 +145,16 @@ module _ (e : Env) where
         (λ p h. (rw h.0 h.1, no_start r.table p.key h.0 c)) l
         (All-and (Has r.table) (λ p. moves p.key ≡ false) l has quiet)
 
-    kept : (l : List Entry) → All Stays l → Rising (Before r.log) l → Rising (Before theLog) l
-    kept = Rising-imp (Before r.log) (Before theLog) Stays (λ p q hp hq h. rw (hp.0, hq.0, hp.1, hq.1) h)
+    kept : (l : List Entry) → All Stays l → Rising (Before r.log) l → Rising (Before the_log) l
+    kept = Rising-imp (Before r.log) (Before the_log) Stays (λ p q hp hq h. rw (hp.0, hq.0, hp.1, hq.1) h)
 
-    joined : (l m : List Entry) → All Stays l → Rising (Before r.log) l → All Comes m → Rising (Below (began e theLog)) m
-        → Rising (Before theLog) (l ++ m)
+    joined : (l m : List Entry) → All Stays l → Rising (Before r.log) l → All Comes m → Rising (Below (began e the_log)) m
+        → Rising (Before the_log) (l ++ m)
     joined l m stay rl come rm =
-        Rising-append (Before theLog) l m (kept l stay rl)
-        (Rising-imp (Below (began e theLog)) (Before theLog) Comes (λ p q hp hq h. inr (rw (hp, hq), h)) m come rm)
-        (All-imp Stays (λ p. All (Before theLog p) m)
-        (λ p hp. All-imp Comes (Before theLog p)
+        Rising-append (Before the_log) l m (kept l stay rl)
+        (Rising-imp (Below (began e the_log)) (Before the_log) Comes (λ p q hp hq h. inr (rw (hp, hq), h)) m come rm)
+        (All-imp Stays (λ p. All (Before the_log p) m)
+        (λ p hp. All-imp Comes (Before the_log p)
         (λ q hq. inl (rw (hp.0, hq) (omega (arith, latest-le e (λ v. tails e p.key v.given v.call) r.log)))) m come)
         l stay)
 
@@ -162,86 +162,86 @@ module _ (e : Env) where
     -- a bucket of the table that the call leaves is in order
     abbrev Ordered : Call → Contents → Type 0
     Ordered c b =
-        All (Has (next e r.table c)) b.entries → ((X : Bytes) → length (of_key X b.entries) ≤ 1) → Rising (Before (theLog r c)) b.entries
+        All (Has (next e r.table c)) b.entries → ((X : Bytes) → length (of_key X b.entries) ≤ 1) → Rising (Before (the_log r c)) b.entries
 
     -- none of the bucket's nodes moves
     still : (c : Call) (i : ℕ) → All (λ p. moves r c p.key ≡ false) (bucket_at e r.table i).entries
-        → Rising (Before (theLog r c)) (bucket_at e r.table i).entries
+        → Rising (Before (the_log r c)) (bucket_at e r.table i).entries
     still c i quiet =
         let l = (bucket_at e r.table i).entries in
         kept r c l (stays r c l (has-entry r.table ok i) quiet) (entries-in-order i)
 
-    all-still : (c : Call) (i : ℕ) → ((X : Bytes) → moves r c X ≡ false) → Rising (Before (theLog r c)) (bucket_at e r.table i).entries
+    all-still : (c : Call) (i : ℕ) → ((X : Bytes) → moves r c X ≡ false) → Rising (Before (the_log r c)) (bucket_at e r.table i).entries
     all-still c i quiet = still c i (All-every _ (λ p. quiet p.key) (bucket_at e r.table i).entries)
 
     module _ (now unix : ℕ) (address : Bytes) (udp : ℕ) (key bytes : Bytes) where
-      abbrev theCall : Call
-      theCall = datagram now unix address udp key bytes
+      abbrev the_call : Call
+      the_call = datagram now unix address udp key bytes
 
-      abbrev theEntries : List Entry
-      theEntries = (bucketOf e r.table key).entries
+      abbrev the_entries : List Entry
+      the_entries = (bucket_of e r.table key).entries
 
-      others : (l : List Entry) → All (λ p. is_of key p ≡ false) l → All (λ p. moves r theCall p.key ≡ false) l
-      others = All-imp (λ p. is_of key p ≡ false) (λ p. moves r theCall p.key ≡ false) (λ p h. rw (other_key key p.key h))
+      others : (l : List Entry) → All (λ p. is_of key p ≡ false) l → All (λ p. moves r the_call p.key ≡ false) l
+      others = All-imp (λ p. is_of key p ≡ false) (λ p. moves r the_call p.key ≡ false) (λ p h. rw (other_key key p.key h))
 
       -- the packet puts its signer at the tail
-      moved : (b : Contents) → MovedTo now key (bucketOf e r.table key) b → moves r theCall key ≡ true → Ordered theCall b
+      moved : (b : Contents) → MovedTo now key (bucket_of e r.table key) b → moves r the_call key ≡ true → Ordered the_call b
       moved b is at_tail has once =
-          let l = without key theEntries in
+          let l = without key the_entries in
           let m = of_key key b.entries in
           rw is
-          (joined r theCall l m
-          (stays r theCall l (All-select (Has r.table) (λ p. not (is_of key p)) theEntries (has-entry r.table ok (slot e key)))
+          (joined r the_call l m
+          (stays r the_call l (All-select (Has r.table) (λ p. not (is_of key p)) the_entries (has-entry r.table ok (slot e key)))
           (others l
           (All-imp (λ p. not (is_of key p) ≡ true) (λ p. is_of key p ≡ false) (λ p h. not-true (is_of key p) h) l
-          (select-passes (λ p. not (is_of key p)) theEntries))))
-          (Rising-select (Before r.log) (λ p. not (is_of key p)) theEntries (entries-in-order (slot e key)))
-          (All-imp (λ p. Has (next e r.table theCall) p × (is_of key p ≡ true)) (Comes r theCall)
+          (select-passes (λ p. not (is_of key p)) the_entries))))
+          (Rising-select (Before r.log) (λ p. not (is_of key p)) the_entries (entries-in-order (slot e key)))
+          (All-imp (λ p. Has (next e r.table the_call) p × (is_of key p ≡ true)) (Comes r the_call)
           (λ p h. by_test (empty (entry_of e p.key r.table))
           (λ g. rw (g, h.0))
-          (λ g. rw g (ap (moves r theCall) (sym (same_eq key p.key h.1)) ∙ at_tail)))
+          (λ g. rw g (ap (moves r the_call) (sym (same_eq key p.key h.1)) ∙ at_tail)))
           m
-          (All-and (Has (next e r.table theCall)) (λ p. is_of key p ≡ true) m
-          (All-select (Has (next e r.table theCall)) (is_of key) b.entries has)
+          (All-and (Has (next e r.table the_call)) (λ p. is_of key p ≡ true) m
+          (All-select (Has (next e r.table the_call)) (is_of key) b.entries has)
           (select-passes (is_of key) b.entries)))
-          (Rising-one (Below (began e (theLog r theCall))) m (once key)))
+          (Rising-one (Below (began e (the_log r the_call))) m (once key)))
 
       -- the signer's bucket
-      here : Accepted e r.table theCall → Ordered theCall (on_datagram now address udp key (e.read bytes unix) (bucketOf e r.table key))
+      here : Accepted e r.table the_call → Ordered the_call (on_datagram now address udp key (e.read bytes unix) (bucket_of e r.table key))
       here a =
           let reading = e.read bytes unix in
-          let b = bucketOf e r.table key in
-          let answered = eq-eqb (answer e r.table theCall) 0 a in
-          by_packet (Ordered theCall) now address udp key reading b
+          let b = bucket_of e r.table key in
+          let answered = eq-eqb (answer e r.table the_call) 0 a in
+          by_packet (Ordered the_call) now address udp key reading b
           (λ fault is. absurd (datagram-read e r.table now unix address udp key bytes a fault is))
-          (λ no unverified has once. all-still theCall (slot e key) (λ X. rw (no, unverified) (simp and-false)))
+          (λ no unverified has once. all-still the_call (slot e key) (λ X. rw (no, unverified) (simp and-false)))
           (λ no verified. moved (on_heard now key b) (heard-moves now key b) (rw (same_refl key, no, answered, verified)))
           (λ is. moved (on_pong now key b) (pong-moves now key b) (rw (same_refl key, is, answered)))
 
-      packet-order : (i : ℕ) → Ordered theCall (bucket_at e (next e r.table theCall) i)
+      packet-order : (i : ℕ) → Ordered the_call (bucket_at e (next e r.table the_call) i)
       packet-order i =
-          byAnswer e (λ s'. Ordered theCall (bucket_at e s' i)) r.table theCall
-          (λ a. byBucket e r.table ok.sized now key (on_datagram now address udp key (e.read bytes unix))
-          (datagram-keyed e r.table now unix address udp key bytes a).is_kept (λ i b. Ordered theCall b)
+          by_answer e (λ s'. Ordered the_call (bucket_at e s' i)) r.table the_call
+          (λ a. by_bucket e r.table ok.sized now key (on_datagram now address udp key (e.read bytes unix))
+          (datagram-keyed e r.table now unix address udp key bytes a).is_kept (λ i b. Ordered the_call b)
           (here a)
           (λ i away has once.
           let l = (bucket_at e r.table i).entries in
-          still theCall i (others l (none-away e key i away l (own-buckets e r.table ok i).0)))
+          still the_call i (others l (none-away e key i away l (own-buckets e r.table ok i).0)))
           i)
-          (λ rejected has once. all-still theCall i (λ X. rw (ne_eqb (answer e r.table theCall) 0 rejected) (simp and-false)))
+          (λ rejected has once. all-still the_call i (λ X. rw (ne_eqb (answer e r.table the_call) 0 rejected) (simp and-false)))
 
     pinged-order : (now : ℕ) (key address : Bytes) (udp tcp : ℕ) (hash : Bytes)
-        → Rising (Before (theLog r (ping_sent now key address udp tcp hash))) (on_ping_sent now key address udp tcp hash (bucketOf e r.table key)).entries
+        → Rising (Before (the_log r (ping_sent now key address udp tcp hash))) (on_ping_sent now key address udp tcp hash (bucket_of e r.table key)).entries
     unfolding on_ping_sent
     pinged-order now key address udp tcp hash =
         let c = ping_sent now key address udp tcp hash in
-        let b = bucketOf e r.table key in
+        let b = bucket_of e r.table key in
         let was = all-still c (slot e key) (λ X. refl) in
         let same_key : (p : Entry) → (cond (is_of key p) (pinged now hash p) p).key ≡ p.key =
         λ p. by_test (is_of key p) (λ h. rw h) (λ h. rw h) in
         by_test (empty (held key b))
         (λ g. rw g was)
-        (λ g. rw g (Rising-map (Before (theLog r c)) (λ p. cond (is_of key p) (pinged now hash p) p)
+        (λ g. rw g (Rising-map (Before (the_log r c)) (λ p. cond (is_of key p) (pinged now hash p) p)
         (λ p q h. rw (same_key p, same_key q) h) b.entries was))
 
     swept-order : (now i : ℕ) → Ordered (sweep now) (on_sweep now (bucket_at e r.table i))
@@ -266,20 +266,20 @@ module _ (e : Env) where
     ordered (datagram now unix address udp key bytes) i = packet-order now unix address udp key bytes i
     ordered (ping_sent now key address udp tcp hash) i =
         let c = ping_sent now key address udp tcp hash in
-        byAnswer e (λ s'. Ordered c (bucket_at e s' i)) r.table c
-        (λ a. byBucket e r.table ok.sized now key (on_ping_sent now key address udp tcp hash)
+        by_answer e (λ s'. Ordered c (bucket_at e s' i)) r.table c
+        (λ a. by_bucket e r.table ok.sized now key (on_ping_sent now key address udp tcp hash)
         (ping-allowed e r.table now key address udp tcp hash a).keyed.is_kept (λ i b. Ordered c b)
         (λ has once. pinged-order now key address udp tcp hash)
         (λ i _ has once. all-still c i (λ X. refl))
         i)
         (λ _ has once. all-still c i (λ X. refl))
     ordered (sweep now) i =
-        byAnswer e (λ s'. Ordered (sweep now) (bucket_at e s' i)) r.table (sweep now)
+        by_answer e (λ s'. Ordered (sweep now) (bucket_at e s' i)) r.table (sweep now)
         (λ a. rw (swept_bucket e r.table now i) (swept-order now i))
         (λ _ has once. all-still (sweep now) i (λ X. refl))
     ordered (closest target room) i =
         let c = closest target room in
-        byAnswer e (λ s'. Ordered c (bucket_at e s' i)) r.table c
+        by_answer e (λ s'. Ordered c (bucket_at e s' i)) r.table c
         (λ _ has once. all-still c i (λ X. refl))
         (λ _ has once. all-still c i (λ X. refl))
     ordered (unclocked c) i = λ has once. all-still (unclocked c) i (λ X. refl)

@@ -15,21 +15,21 @@ IsCall (closest target room) = Slice target × (room < 2 ^ 63)
 IsCall (unclocked c) = IsCall c
 
 -- the answer number that a call gives on bytes, and the bytes that it leaves
-module _ (answerOn : Bytes → Call → ℕ) (bytesAfter : Bytes → Call → Bytes) where
+module _ (answer_on : Bytes → Call → ℕ) (bytes_after : Bytes → Call → Bytes) where
   -- the answer numbers of a list of calls, and the bytes after it
-  abbrev pub answersOn : Bytes → List Call → List ℕ
-  answersOn s [] = []
-  answersOn s (c ∷ cs) = answerOn s c ∷ answersOn (bytesAfter s c) cs
+  abbrev pub answers_on : Bytes → List Call → List ℕ
+  answers_on s [] = []
+  answers_on s (c ∷ cs) = answer_on s c ∷ answers_on (bytes_after s c) cs
 
-  abbrev pub bytesAfterAll : Bytes → List Call → Bytes
-  bytesAfterAll s [] = s
-  bytesAfterAll s (c ∷ cs) = bytesAfterAll (bytesAfter s c) cs
+  abbrev pub bytes_after_all : Bytes → List Call → Bytes
+  bytes_after_all s [] = s
+  bytes_after_all s (c ∷ cs) = bytes_after_all (bytes_after s c) cs
 
   -- "each call's answer number is theirs, and the table's bytes after the list are the one form of what they give", where `encode`
   -- gives a table's one form
   pub record FollowsRules (e : Env) (encode : Table → Bytes) (calls : List Call) : Type 0 where
-    pub numbers : answersOn (encode (fresh e)) calls ≡ answers e (fresh e) calls
-    pub bytes : bytesAfterAll (encode (fresh e)) calls ≡ encode (run e calls).table
+    pub numbers : answers_on (encode (fresh e)) calls ≡ answers e (fresh e) calls
+    pub bytes : bytes_after_all (encode (fresh e)) calls ≡ encode (run e calls).table
 
   -- Demand 3 of a list of calls on bytes, as one claim
   pub record Demand3OnBytes (e : Env) (encode : Table → Bytes) (calls : List Call) : Type 0 where

@@ -6,8 +6,8 @@ use Rattle.lists.specs.Lists.{empty, All, Rising}
 use Rattle.node.specs.declared.Endpoint.{Endpoint}
 use Rattle.bucket_model.specs.Facts.{SeatFor}
 use Rattle.bucket_model.specs.Rules.{max_of_range, range_count, of_key, held, is_proved}
-use Rattle.call_history.specs.Model.{Env, Call, datagram, ping_sent, sweep, closest, unclocked, Table, bucketOf, bucket_at, next, Run, advance, run}
-use Rattle.call_history.specs.Words.{OwnBucket, entry_of, HasEntry, IsReplacement, AcceptedSweep, pong_from, OpenPing, begins, InStay, began, proved, ProvedReplacement, kept_replacements, takenAhead, TailedBefore}
+use Rattle.call_history.specs.Model.{Env, Call, datagram, ping_sent, sweep, closest, unclocked, Table, bucket_of, bucket_at, next, Run, advance, run}
+use Rattle.call_history.specs.Words.{OwnBucket, entry_of, HasEntry, IsReplacement, AcceptedSweep, pong_from, OpenPing, begins, InStay, began, proved, ProvedReplacement, kept_replacements, taken_ahead, TailedBefore}
 
 -- the box clock reading of a call; a closest call has none, and counts as read when the last one was
 abbrev pub clock_reading : ℕ → Call → ℕ
@@ -48,10 +48,10 @@ count_sweep (unclocked c) n = n
 module _ (e : Env) where
   -- the call that next takes X's entry, and how many sweeps, counted from n, came before it: no sweep is ever left out, so the
   -- same number is the same sweep
-  abbrev pub entryLostAt : Bytes → Table → ℕ → List Call → Option (ℕ × Call)
-  entryLostAt X s n [] = none
-  entryLostAt X s n (c ∷ cs) =
-      cond (empty (entry_of e X (next e s c))) (some (n, c)) (entryLostAt X (next e s c) (count_sweep c n) cs)
+  abbrev pub entry_lost_at : Bytes → Table → ℕ → List Call → Option (ℕ × Call)
+  entry_lost_at X s n [] = none
+  entry_lost_at X s n (c ∷ cs) =
+      cond (empty (entry_of e X (next e s c))) (some (n, c)) (entry_lost_at X (next e s c) (count_sweep c n) cs)
 
   -- ---- the sentences of the demand, after a run r, where the call c comes next
 
@@ -70,14 +70,14 @@ module _ (e : Env) where
   Isolated r later =
       (X : Bytes) → HasEntry e X r.table → NotFalling r.table.clock later
       → (fewer : List Call) → LeftOut X later fewer
-      → entryLostAt X r.table 0 later ≡ entryLostAt X r.table 0 fewer
+      → entry_lost_at X r.table 0 later ≡ entry_lost_at X r.table 0 fewer
 
   -- Against "pinging a held node where its last packet came from, so that one replayed packet from elsewhere unseats a live node":
   -- where X is held, seated or waiting, before a call and after it, its endpoint (address, UDP port, TCP port) is the same.
   abbrev pub KeepsEndpoint : Run e → Call → Type 0
   KeepsEndpoint r c =
       (X : Bytes)
-      → All (λ p. All (λ q. q.endpoint ≡ p.endpoint) (held X (bucketOf e (next e r.table c) X))) (held X (bucketOf e r.table X))
+      → All (λ p. All (λ q. q.endpoint ≡ p.endpoint) (held X (bucket_of e (next e r.table c) X))) (held X (bucket_of e r.table X))
 
   -- "No bucket ever has more than 16 seats or 4 waiting places taken, and no node stands in it twice." And "keys .. in their own
   -- bucket": every node in it is one that `HasEntry` and `IsReplacement` find there.
@@ -105,7 +105,7 @@ module _ (e : Env) where
   HasRoomFor X r c =
       (t : ℕ) × AcceptedSweep e r.table c t
       × (0 < length (of_key X (kept_replacements e t r.table X)))
-      × SeatFor X (takenAhead e t r X) (kept_replacements e t r.table X)
+      × SeatFor X (taken_ahead e t r X) (kept_replacements e t r.table X)
 
   -- "in each stay in line, from the pong that left it there proved, it is seated at the first accepted sweep that [has room for it], and not
   -- sooner" (document 02, C-16): at each call ..
@@ -121,7 +121,7 @@ module _ (e : Env) where
       (X : Bytes) → (HasEntry e X r.table → ⊥)
       → HasEntry e X (next e r.table c)
       ↔ ((IsReplacement e X r.table × (pong_from e X r.table c ≡ true)
-      × SeatFor X (bucketOf e r.table X).entries (bucketOf e r.table X).replacements)
+      × SeatFor X (bucket_of e r.table X).entries (bucket_of e r.table X).replacements)
       ⊎ (ProvedReplacement e X r × HasRoomFor X r c))
 
   -- the call is an accepted sweep that does not keep X

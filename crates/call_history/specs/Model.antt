@@ -10,14 +10,14 @@ use Rattle.distance.specs.Distance.{distance, in_bucket, number_of_distance, kee
 
 -- why a datagram cannot be read, whatever the table holds
 pub data Fault : Type 0 where
-  wrongLength wrongHash unknownType badList badField expired : Fault
+  wrong_length wrong_hash unknown_type bad_list bad_field expired : Fault
 
 abbrev pub fault_number : Fault → ℕ
-fault_number wrongLength = 3
-fault_number wrongHash = 4
-fault_number unknownType = 8
-fault_number badList = 9
-fault_number badField = 10
+fault_number wrong_length = 3
+fault_number wrong_hash = 4
+fault_number unknown_type = 8
+fault_number bad_list = 9
+fault_number bad_field = 10
 fault_number expired = 11
 
 -- what a datagram reads as: its lowest fault, or as much of the packet as the table needs (of a pong, the hash of its ping;
@@ -81,29 +81,29 @@ held_refusals address udp key b = (held_elsewhere address udp key b, 16) ∷ (pi
 module _ (e : Env) where
   -- ---- which bucket a key falls in
 
-  abbrev pub isOwn : Bytes → Bool
-  isOwn key = same_bytes (e.hash key) e.own
+  abbrev pub is_own : Bytes → Bool
+  is_own key = same_bytes (e.hash key) e.own
 
   abbrev pub distance_to : Bytes → ℕ
   distance_to key = distance e.own (e.hash key)
 
-  unfoldable pub bucketNumber : Bytes → ℕ
-  bucketNumber key = number_of_distance (distance_to key)
+  unfoldable pub bucket_number : Bytes → ℕ
+  bucket_number key = number_of_distance (distance_to key)
 
   -- "A table of B buckets keeps numbers 256−B to 255"
-  abbrev pub firstKept : ℕ
-  firstKept = 256 - e.kept
+  abbrev pub first_kept : ℕ
+  first_kept = 256 - e.kept
 
-  abbrev pub isKept : Bytes → Bool
-  isKept key = keeps_number e.kept (bucketNumber key)
+  abbrev pub is_kept : Bytes → Bool
+  is_kept key = keeps_number e.kept (bucket_number key)
 
   -- where a key's bucket stands among those kept
   abbrev pub slot : Bytes → ℕ
-  slot key = slot_of_number e.kept (bucketNumber key)
+  slot key = slot_of_number e.kept (bucket_number key)
 
   -- the key is in its own bucket where that stands at index i
   abbrev pub home_at : ℕ → Bytes → Bool
-  home_at i key = in_bucket (firstKept + i) (distance_to key)
+  home_at i key = in_bucket (first_kept + i) (distance_to key)
 
   -- "clock 0, nothing held"
   abbrev pub fresh : Table
@@ -112,17 +112,17 @@ module _ (e : Env) where
   abbrev pub bucket_at : Table → ℕ → Contents
   bucket_at s i = get_or s.buckets i no_contents
 
-  abbrev pub bucketOf : Table → Bytes → Contents
-  bucketOf s key = bucket_at s (slot key)
+  abbrev pub bucket_of : Table → Bytes → Contents
+  bucket_of s key = bucket_at s (slot key)
 
   -- ---- a call's answer number: the lowest that applies. 1 never does, where the table is the one that the calls before left.
 
   -- 13 to 15
-  abbrev pub packetRefusals : ℕ → Bytes → ℕ → Bytes → Reading → Contents → List (Bool × ℕ)
-  packetRefusals now address udp key (refused fault) b = []
-  packetRefusals now address udp key ping b = []
-  packetRefusals now address udp key (pong hash) b = (not_awaited hash address udp key b, 14) ∷ (is_late now key b, 15) ∷ []
-  packetRefusals now address udp key other b = (not_verified now address udp key b, 13) ∷ []
+  abbrev pub packet_refusals : ℕ → Bytes → ℕ → Bytes → Reading → Contents → List (Bool × ℕ)
+  packet_refusals now address udp key (refused fault) b = []
+  packet_refusals now address udp key ping b = []
+  packet_refusals now address udp key (pong hash) b = (not_awaited hash address udp key b, 14) ∷ (is_late now key b, 15) ∷ []
+  packet_refusals now address udp key other b = (not_verified now address udp key b, 13) ∷ []
 
   -- 2 to 12
   abbrev pub datagram_front : ℕ → ℕ → Bytes → Bytes → Reading → List (Bool × ℕ)
@@ -132,16 +132,16 @@ module _ (e : Env) where
       ∷ (is_refused 4 r, 4)
       ∷ (not (eqb (length key) 64), 5)
       ∷ (not (is_address address), 6)
-      ∷ (isOwn key, 7)
+      ∷ (is_own key, 7)
       ∷ (is_refused 8 r, 8)
       ∷ (is_refused 9 r, 9)
       ∷ (is_refused 10 r, 10)
       ∷ (is_refused 11 r, 11)
-      ∷ (not (isKept key), 12)
+      ∷ (not (is_kept key), 12)
       ∷ []
 
-  unfoldable pub datagramRefusals : ℕ → Contents → ℕ → Bytes → ℕ → Bytes → Reading → List (Bool × ℕ)
-  datagramRefusals clock b now address udp key r = datagram_front clock now address key r ++ packetRefusals now address udp key r b
+  unfoldable pub datagram_refusals : ℕ → Contents → ℕ → Bytes → ℕ → Bytes → Reading → List (Bool × ℕ)
+  datagram_refusals clock b now address udp key r = datagram_front clock now address key r ++ packet_refusals now address udp key r b
 
   -- 2 to 12
   abbrev pub ping_sent_front : ℕ → ℕ → Bytes → Bytes → Bytes → List (Bool × ℕ)
@@ -150,17 +150,17 @@ module _ (e : Env) where
       ∷ (not (eqb (length hash) 32), 4)
       ∷ (not (eqb (length key) 64), 5)
       ∷ (not (is_address address), 6)
-      ∷ (isOwn key, 7)
-      ∷ (not (isKept key), 12)
+      ∷ (is_own key, 7)
+      ∷ (not (is_kept key), 12)
       ∷ []
 
-  unfoldable pub pingSentRefusals : ℕ → Contents → ℕ → Bytes → Bytes → ℕ → Bytes → List (Bool × ℕ)
-  pingSentRefusals clock b now key address udp hash = ping_sent_front clock now key address hash ++ held_refusals address udp key b
+  unfoldable pub ping_sent_refusals : ℕ → Contents → ℕ → Bytes → Bytes → ℕ → Bytes → List (Bool × ℕ)
+  ping_sent_refusals clock b now key address udp hash = ping_sent_front clock now key address hash ++ held_refusals address udp key b
 
   abbrev pub answer : Table → Call → ℕ
   answer s (datagram now unix address udp key bytes) =
-      first (datagramRefusals s.clock (bucketOf s key) now address udp key (e.read bytes unix))
-  answer s (ping_sent now key address udp tcp hash) = first (pingSentRefusals s.clock (bucketOf s key) now key address udp hash)
+      first (datagram_refusals s.clock (bucket_of s key) now address udp key (e.read bytes unix))
+  answer s (ping_sent now key address udp tcp hash) = first (ping_sent_refusals s.clock (bucket_of s key) now key address udp hash)
   answer s (sweep now) = first ((ltb now s.clock, 2) ∷ [])
   answer s (closest target room) = first ((not (eqb (length target) 64), 5) ∷ (ltb room 16, 19) ∷ [])
   answer s (unclocked c) = 2
@@ -191,9 +191,9 @@ module _ (e : Env) where
   answers s [] = []
   answers s (c ∷ cs) = answer s c ∷ answers (next s c) cs
 
-  abbrev pub tableAfterAll : Table → List Call → Table
-  tableAfterAll s [] = s
-  tableAfterAll s (c ∷ cs) = tableAfterAll (next s c) cs
+  abbrev pub table_after_all : Table → List Call → Table
+  table_after_all s [] = s
+  table_after_all s (c ∷ cs) = table_after_all (next s c) cs
 
   -- a call and the table that it was given
   pub record Event : Type 0 where

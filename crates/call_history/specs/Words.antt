@@ -5,7 +5,7 @@ use Rattle.octets.specs.Octets.{Bytes, same_bytes}
 use Rattle.lists.specs.Lists.{select, empty}
 use Rattle.entry.specs.declared.Entry.{Entry}
 use Rattle.bucket_model.specs.Rules.{of_key, held, may_take, not_verified, stays_entry, stays_replacement}
-use Rattle.call_history.specs.Model.{Env, Reading, refused, ping, pong, other, Call, datagram, ping_sent, sweep, closest, unclocked, Table, isKept, slot, home_at, bucketOf, answer, Accepted, next, Event, Run}
+use Rattle.call_history.specs.Model.{Env, Reading, refused, ping, pong, other, Call, datagram, ping_sent, sweep, closest, unclocked, Table, is_kept, slot, home_at, bucket_of, answer, Accepted, next, Event, Run}
 
 abbrev pub is_pong : Reading → Bool
 is_pong (refused fault) = false
@@ -24,13 +24,13 @@ module _ (e : Env) where
 
   -- X's own bucket is kept and stands at index i: "Bucket i has 2^i ≤ distance < 2^(i+1)" holds of its number
   abbrev pub OwnBucket : ℕ → Bytes → Type 0
-  OwnBucket i X = (home_at e i X ≡ true) × (isKept e X ≡ true) × (slot e X ≡ i)
+  OwnBucket i X = (home_at e i X ≡ true) × (is_kept e X ≡ true) × (slot e X ≡ i)
 
   abbrev pub entry_of : Bytes → Table → List Entry
-  entry_of X s = of_key X (bucketOf e s X).entries
+  entry_of X s = of_key X (bucket_of e s X).entries
 
-  abbrev pub replacementOf : Bytes → Table → List Entry
-  replacementOf X s = of_key X (bucketOf e s X).replacements
+  abbrev pub replacement_of : Bytes → Table → List Entry
+  replacement_of X s = of_key X (bucket_of e s X).replacements
 
   -- seated
   abbrev pub HasEntry : Bytes → Table → Type 0
@@ -38,7 +38,7 @@ module _ (e : Env) where
 
   -- waiting
   abbrev pub IsReplacement : Bytes → Table → Type 0
-  IsReplacement X s = 0 < length (replacementOf X s)
+  IsReplacement X s = 0 < length (replacement_of X s)
 
   -- ---- calls
 
@@ -74,7 +74,7 @@ module _ (e : Env) where
   abbrev pub begins : Bytes → Table → Call → Bool
   begins X s (datagram now unix address udp key bytes) = false
   begins X s (ping_sent now key address udp tcp hash) =
-      same_bytes X key && (eqb (answer e s (ping_sent now key address udp tcp hash)) 0 && empty (held key (bucketOf e s key)))
+      same_bytes X key && (eqb (answer e s (ping_sent now key address udp tcp hash)) 0 && empty (held key (bucket_of e s key)))
   begins X s (sweep now) = false
   begins X s (closest target room) = false
   begins X s (unclocked c) = false
@@ -104,11 +104,11 @@ module _ (e : Env) where
 
   -- the entries of X's bucket after the removals of a sweep at t
   abbrev pub kept_entries : ℕ → Table → Bytes → List Entry
-  kept_entries t s X = select (stays_entry t) (bucketOf e s X).entries
+  kept_entries t s X = select (stays_entry t) (bucket_of e s X).entries
 
   -- the line of X's bucket after the removals of a sweep at t
   abbrev pub kept_replacements : ℕ → Table → Bytes → List Entry
-  kept_replacements t s X = select (stays_replacement t) (bucketOf e s X).replacements
+  kept_replacements t s X = select (stays_replacement t) (bucket_of e s X).replacements
 
   -- "ahead of it are those in its bucket's line whose stay began earlier": the proved ones that a sweep at t keeps
   abbrev pub ahead : ℕ → Run e → Bytes → List Entry
@@ -117,25 +117,25 @@ module _ (e : Env) where
 
   -- the entries taken when it is X's turn: "after its removals and the seating of every proved one ahead of it that the sweep doesn't
   -- pass over"
-  abbrev pub takenAhead : ℕ → Run e → Bytes → List Entry
-  takenAhead t r X = taken_after (kept_entries t r.table X) (ahead t r X)
+  abbrev pub taken_ahead : ℕ → Run e → Bytes → List Entry
+  taken_ahead t r X = taken_after (kept_entries t r.table X) (ahead t r X)
 
   -- ---- the order of the entries
 
   -- "Other packets accepted": one from X, verified where it came from
-  abbrev pub heardFrom : Bytes → Table → Call → Bool
-  heardFrom X s (datagram now unix address udp key bytes) =
+  abbrev pub heard_from : Bytes → Table → Call → Bool
+  heard_from X s (datagram now unix address udp key bytes) =
       same_bytes X key
       && (not (is_pong (e.read bytes unix))
-      && (eqb (answer e s (datagram now unix address udp key bytes)) 0 && not (not_verified now address udp key (bucketOf e s key))))
-  heardFrom X s (ping_sent now key address udp tcp hash) = false
-  heardFrom X s (sweep now) = false
-  heardFrom X s (closest target room) = false
-  heardFrom X s (unclocked c) = false
+      && (eqb (answer e s (datagram now unix address udp key bytes)) 0 && not (not_verified now address udp key (bucket_of e s key))))
+  heard_from X s (ping_sent now key address udp tcp hash) = false
+  heard_from X s (sweep now) = false
+  heard_from X s (closest target room) = false
+  heard_from X s (unclocked c) = false
 
   -- the call puts X at the tail: it gives X an entry, or X has one and "goes to the tail" by its accepted pong or by another packet
   abbrev pub tails : Bytes → Table → Call → Bool
-  tails X s c = cond (empty (entry_of X s)) (not (empty (entry_of X (next e s c)))) (pong_from X s c || heardFrom X s c)
+  tails X s c = cond (empty (entry_of X s)) (not (empty (entry_of X (next e s c)))) (pong_from X s c || heard_from X s c)
 
   -- when X was last put at the tail
   abbrev pub tailed : List (Event e) → Bytes → ℕ

@@ -20,9 +20,9 @@ use Rattle.packet.specs.declared.Parsed.TheVariants as parsed
 use Rattle.packet_envelope.specs.Envelope.{is_sized, hash_matches}
 use Rattle.packet_datagram.specs.Datagram.{read_at}
 use Rattle.packet_datagram.proofs.Refusals.{Refusable, refusable}
-use Rattle.call_history.specs.Model.{wrongLength, wrongHash, Reading, refused, is_refused, isOwn, isKept, slot}
+use Rattle.call_history.specs.Model.{wrong_length, wrong_hash, Reading, refused, is_refused, is_own, is_kept, slot}
 use Rattle.call_model.specs.Reading.{fault_of, packet_reading, parsed_reading, reading}
-use Rattle.call_model.specs.Calls.{envOf, unsoundFor}
+use Rattle.call_model.specs.Calls.{env_of, unsound_for}
 use Rattle.table.specs.declared.Touched.TheVariants.{NotKept, Slot}
 use Rattle.table.specs.Steps.{pick, touched_by}
 use Rattle.call_touched.specs.declared.Reach.{Reach}
@@ -88,7 +88,7 @@ last (parsed.Refused n) kept i h = rw (ne_eqb n 0 (λ z. omega (arith, h.0))) re
 
 -- the datagram reads as r: it has the right length, the right hash, and then p was read
 abbrev reads : Bytes → Bool → Bool → Parsed → Reading
-reads g sized matches p = cond sized (cond matches (parsed_reading g p) (refused wrongHash)) (refused wrongLength)
+reads g sized matches p = cond sized (cond matches (parsed_reading g p) (refused wrong_hash)) (refused wrong_length)
 
 -- 5 to 12
 keyed : (whole own kept form : Bool) (p : Parsed) (i : ℕ) → Refusable p
@@ -145,22 +145,22 @@ same_judged g false true true whole own kept form unix i =
 -- ---- with 1
 
 module _ (s : Bytes) (now : ℕ) (unix : UnixSeconds) (address key g : Bytes) where
-  judge-unsound : unsoundFor reading s key ≡ true → Refused 1 ≡ judged s now unix address key g
+  judge-unsound : unsound_for reading s key ≡ true → Refused 1 ≡ judged s now unix address key g
   unfolding judged
   judge-unsound u = sym (rw u refl)
 
-  judge-sound : unsoundFor reading s key ≡ false → judged_at (clock_of s) now unix g (touched_by s key) address ≡ judged s now unix address key g
+  judge-sound : unsound_for reading s key ≡ false → judged_at (clock_of s) now unix g (touched_by s key) address ≡ judged s now unix address key g
   unfolding judged reading
   judge-sound u =
       sym
       (rw (u, is-touched s key)
-      (same_judged g (ltb now (clock_of s)) (is_sized g) (hash_matches g) (eqb (length key) 64) (isOwn (envOf reading s) key) (isKept (envOf reading s) key)
-      (is_address address) unix (slot (envOf reading s) key)))
+      (same_judged g (ltb now (clock_of s)) (is_sized g) (hash_matches g) (eqb (length key) 64) (is_own (env_of reading s) key) (is_kept (env_of reading s) key)
+      (is_address address) unix (slot (env_of reading s) key)))
 
   -- by where the key leads
   judge-reached : judged_on (clock_of s) now unix g (reached s key) address ≡ judged s now unix address key g
   unfolding reached
-  judge-reached = by_test (unsoundFor reading s key) (λ u. rw u (judge-unsound u)) (λ u. rw u (judge-sound u))
+  judge-reached = by_test (unsound_for reading s key) (λ u. rw u (judge-unsound u)) (λ u. rw u (judge-sound u))
 
   pub judged-at : {reach : Reach} {r : Judged} → reach ≡ reached s key → r ≡ judged_on (clock_of s) now unix g reach address → r ≡ judged s now unix address key g
   judged-at e h = h ∙ ap (λ (x : Reach). judged_on (clock_of s) now unix g x address) e ∙ judge-reached

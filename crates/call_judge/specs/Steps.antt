@@ -10,7 +10,7 @@ use Rattle.packet_envelope.specs.Envelope.{is_sized, hash_matches}
 use Rattle.packet_datagram.specs.Datagram.{read_at}
 use Rattle.call_history.specs.Model.{Reading, slot}
 use Rattle.call_history.specs.Model as model
-use Rattle.call_model.specs.Calls.{envOf, unsoundFor}
+use Rattle.call_model.specs.Calls.{env_of, unsound_for}
 use Rattle.call_model.specs.Reading.{reading}
 use Rattle.table.specs.declared.Touched.{Touched}
 use Rattle.call_touched.specs.declared.Placed.{Placed}
@@ -52,7 +52,7 @@ judged_on clock now unix g (At t) address = judged_at clock now unix g t address
 
 -- 1 to 12, in document 01's order: the first lines of its table of answer numbers
 abbrev pub datagram_front : Bytes → ℕ → Bytes → Bytes → Reading → List (Bool × ℕ)
-datagram_front s now address key r = (unsoundFor reading s key, 1) ∷ model.datagram_front (envOf reading s) (clock_of s) now address key r
+datagram_front s now address key r = (unsound_for reading s key, 1) ∷ model.datagram_front (env_of reading s) (clock_of s) now address key r
 
 -- what was read, for the bucket in the slot i
 abbrev pub passed_to : ℕ → Parsed → Judged
@@ -61,4 +61,4 @@ passed_to i (parsed.Refused n) = Refused n
 
 unfoldable pub judged : Bytes → ℕ → UnixSeconds → Bytes → Bytes → Bytes → Judged
 judged s now unix address key g =
-    judged_by (first (datagram_front s now address key (reading g unix.0))) (passed_to (slot (envOf reading s) key) (read_at g unix))
+    judged_by (first (datagram_front s now address key (reading g unix.0))) (passed_to (slot (env_of reading s) key) (read_at g unix))

@@ -1,4 +1,6 @@
 // The tests of a datagram before its sender's bucket is asked, in document 01's order: 1 to 12.
+#![tactic(auto)]
+
 ghost use Rattle.std.specs.Prelude.{◌≡◌, ◌≤◌, length};
 ghost use Rattle.lists.specs.Lists.{first};
 ghost use Rattle.table_model.specs.Layout.{clock_of};
@@ -11,7 +13,7 @@ use packet::{Packet, Parsed};
 use table::Touched;
 
 // What the tests before the bucket's own find of a datagram.
-#[derive(Drop)]
+#[derive(Clone, Copy)]
 pub enum Judged {
     // The answer number, from 1 to 12.
     Refused(u8),

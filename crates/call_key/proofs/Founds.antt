@@ -31,8 +31,8 @@ use Rattle.bucket_lookup.specs.Steps.{only_at, found, Ready, LooksUp}
 use Rattle.bucket_lookup.proofs.ByKey.{located}
 use Rattle.table_model.specs.Layout.{own_of, count_of, bucket_at}
 use Rattle.table_model.proofs.Header.{header-sound}
-use Rattle.call_history.specs.Model.{bucketNumber, isOwn, isKept, slot}
-use Rattle.call_model.specs.Calls.{envOf, bucketFor, unsoundFor}
+use Rattle.call_history.specs.Model.{bucket_number, is_own, is_kept, slot}
+use Rattle.call_model.specs.Calls.{env_of, bucket_for, unsound_for}
 use Rattle.call_model.specs.Reading.{reading}
 use Rattle.call_touched.proofs.Touch.{header-there}
 use Rattle.call_key.specs.declared.Held.{Held}
@@ -121,14 +121,14 @@ module _ (key : Bytes) (b : Bucket) (m : Contents) (sh : Shows b m) (ready : Rea
 -- ---- the distance of a kept bucket
 
 module _ (s key : Bytes) (bs : IsBytes s) (zero : eqb (key_number s key) 0 ≡ true) where
-  slot-distance : 257 - count_of s + slot (envOf reading s) key ≡ log_distance (own_of s) (keccak256 key)
-  unfolding key_number bucketNumber
+  slot-distance : 257 - count_of s + slot (env_of reading s) key ≡ log_distance (own_of s) (keccak256 key)
+  unfolding key_number bucket_number
   slot-distance =
       let tests = passed (
-      (unsoundFor reading s key, 1)
+      (unsound_for reading s key, 1)
       ∷ (not (eqb (length key) 64), 5)
-      ∷ (isOwn (envOf reading s) key, 7)
-      ∷ (not (isKept (envOf reading s) key), 12)
+      ∷ (is_own (env_of reading s) key, 7)
+      ∷ (not (is_kept (env_of reading s) key), 12)
       ∷ []
       ) refl (eqb-true (key_number s key) 0 zero) in
       let header = header-sound s (header-there s key tests.0) in
@@ -139,11 +139,11 @@ module _ (s key : Bytes) (bs : IsBytes s) (zero : eqb (key_number s key) 0 ≡ t
       let kept = leb-true (256 - count_of s) (number_of_distance (distance (own_of s) (keccak256 key))) (not-false _ tests.1.1.1.0) in
       omega (arith, apart, header.one, header.most, kept)
 
-  pub found-place : {r : Found} {i : ℕ} → i ≡ slot (envOf reading s) key → r ≡ found_in (257 - count_of s + i) key (bucket_at s i) → r ≡ found_on s key
+  pub found-place : {r : Found} {i : ℕ} → i ≡ slot (env_of reading s) key → r ≡ found_in (257 - count_of s + i) key (bucket_at s i) → r ≡ found_on s key
   unfolding found_on
   found-place e er =
       er ∙ ap (λ (j : ℕ). found_in (257 - count_of s + j) key (bucket_at s j)) e
-      ∙ ap (λ (d : ℕ). found_in d key (bucketFor reading s key)) slot-distance
+      ∙ ap (λ (d : ℕ). found_in d key (bucket_for reading s key)) slot-distance
       ∙ sym (rw zero refl)
 
 -- ---- by the number

@@ -13,7 +13,7 @@ use Rattle.bucket_model.specs.Contents.{entries_at, decode_bucket}
 use Rattle.table_model.specs.Layout.{offset_of, bucket_at}
 use Rattle.table_model.proofs.Header.{header-sound}
 use Rattle.call_history.specs.Model.{slot}
-use Rattle.call_model.specs.Calls.{envOf}
+use Rattle.call_model.specs.Calls.{env_of}
 use Rattle.call_model.specs.Reading.{reading}
 use Rattle.call_touched.specs.Steps.{SoundAt}
 use Rattle.call_key.specs.declared.HeadNode.{HeadNode}
@@ -59,6 +59,6 @@ module _ (s key : Bytes) where
   unfolding head_on
   refused-head (g, e) er = er ∙ ap no_head e ∙ sym (rw g refl)
 
-  pub told-head : {r : HeadNode} {i : ℕ} → (eqb (key_number s key) 0 ≡ true) × (i ≡ slot (envOf reading s) key) → r ≡ first_of (bucket_at s i).entries → r ≡ head_on s key
+  pub told-head : {r : HeadNode} {i : ℕ} → (eqb (key_number s key) 0 ≡ true) × (i ≡ slot (env_of reading s) key) → r ≡ first_of (bucket_at s i).entries → r ≡ head_on s key
   unfolding head_on
   told-head (g, e) er = er ∙ ap (λ (j : ℕ). first_of (bucket_at s j).entries) e ∙ sym (rw g refl)

@@ -10,8 +10,8 @@ use Rattle.octets.specs.Octets.{Bytes}
 use Rattle.lists.specs.Lists.{any}
 use Rattle.lists.proofs.Laws.{by_test}
 use Rattle.entry.specs.declared.Entry.{Entry}
-use Rattle.call_history.specs.Model.{isOwn, isKept}
-use Rattle.call_model.specs.Calls.{envOf, bucketFor, unsoundFor}
+use Rattle.call_history.specs.Model.{is_own, is_kept}
+use Rattle.call_model.specs.Calls.{env_of, bucket_for, unsound_for}
 use Rattle.call_model.specs.Reading.{reading}
 use Rattle.call_key.specs.Number.{key_number}
 use Rattle.call_key.specs.Head.{first_of, head_on}
@@ -35,13 +35,13 @@ first-number (e ∷ l) = refl
 module _ (s key : Bytes) where
   key-listed : any (eqb (key_number s key)) numbers ≡ true
   unfolding key_number
-  key-listed = by_tests (unsoundFor reading s key) (eqb (length key) 64) (isOwn (envOf reading s) key) (isKept (envOf reading s) key)
+  key-listed = by_tests (unsound_for reading s key) (eqb (length key) 64) (is_own (env_of reading s) key) (is_kept (env_of reading s) key)
 
   head-number : (head_on s key).number ≡ key_number s key
   unfolding head_on
   head-number =
       by_test (eqb (key_number s key) 0)
-      (λ t. rw t (first-number (bucketFor reading s key).entries ∙ sym (eqb-true (key_number s key) 0 t)))
+      (λ t. rw t (first-number (bucket_for reading s key).entries ∙ sym (eqb-true (key_number s key) 0 t)))
       (λ t. rw t refl)
 
   find-number : (found_on s key).number ≡ key_number s key

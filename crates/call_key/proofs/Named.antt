@@ -33,9 +33,9 @@ use Rattle.packet.specs.declared.Packet.{Packet}
 use Rattle.packet.specs.declared.Packet.TheVariants as packet
 use Rattle.packet.specs.declared.Parsed.TheVariants as parsed
 use Rattle.packet_datagram.specs.Datagram.{read_at}
-use Rattle.call_history.specs.Model.{Env, Call, datagram, isOwn, isKept, slot}
+use Rattle.call_history.specs.Model.{Env, Call, datagram, is_own, is_kept, slot}
 use Rattle.call_history.specs.Keccak.{with_keccak}
-use Rattle.call_model.specs.Calls.{envOf, touches, unsoundFor, bytesAfter}
+use Rattle.call_model.specs.Calls.{env_of, touches, unsound_for, bytes_after}
 use Rattle.call_model.specs.Reading.{reading}
 use Rattle.call_model.proofs.Form.{both_sound}
 use Rattle.call_touched.specs.Steps.{SoundAt, with_bucket}
@@ -155,8 +155,8 @@ module _ (s : Bytes) (j : ℕ) (h : SoundAt s j) (m : Contents) (now : ℕ) (in-
       let room : 32 + length (big_endian 8 now) ≤ length stored = omega (arith, eight, fits s j h, length-store (encode_bucket m) s (offset_of j)) in
       ap (λ (n : ℕ). number (part after 32 n)) (sym eight) ∙ ap number (part-store (big_endian 8 now) stored 32 room) ∙ number-big_endian 8 now in-range
 
-  bytes_after : bucket_bytes after j ≡ encode_bucket m
-  bytes_after =
+  bytes_after_is : bucket_bytes after j ≡ encode_bucket m
+  bytes_after_is =
       behind-kept stored (big_endian 8 now) eight (offset_of j) 2862 (omega arith)
       ∙ bucket-stored s (encode_bucket m) j (bucket-size (home (own_of s) (number_at (count_of s) j)) now m sound) (fits s j h)
 
@@ -172,29 +172,29 @@ module _ (s : Bytes) (j : ℕ) (h : SoundAt s j) (m : Contents) (now : ℕ) (in-
       })
 
   bucket-after : bucket_at after j ≡ m
-  bucket-after = ap decode_bucket bytes_after ∙ bucket-back (home (own_of s) (number_at (count_of s) j)) now m sound
+  bucket-after = ap decode_bucket bytes_after_is ∙ bucket-back (home (own_of s) (number_at (count_of s) j)) now m sound
 
   sound-after : bucket_sound after j ≡ true
-  sound-after = rw (own-after, count-after, clock-after, bytes_after) (sound-encoded (home (own_of s) (number_at (count_of s) j)) now m sound.rules sound.values)
+  sound-after = rw (own-after, count-after, clock-after, bytes_after_is) (sound-encoded (home (own_of s) (number_at (count_of s) j)) now m sound.rules sound.values)
 
-  env-after : envOf reading after ≡ envOf reading s
+  env-after : env_of reading after ≡ env_of reading s
   env-after = ap₂ (with_keccak reading) own-after count-after
 
-  module _ (key : Bytes) (here : slot (envOf reading s) key ≡ j) (whole : eqb (length key) 64 ≡ true) (own : isOwn (envOf reading s) key ≡ false) (kept : isKept (envOf reading s) key ≡ true) where
-    leads-here : slot (envOf reading after) key ≡ j
+  module _ (key : Bytes) (here : slot (env_of reading s) key ≡ j) (whole : eqb (length key) 64 ≡ true) (own : is_own (env_of reading s) key ≡ false) (kept : is_kept (env_of reading s) key ≡ true) where
+    leads-here : slot (env_of reading after) key ≡ j
     leads-here = ap (λ (x : Env). slot x key) env-after ∙ here
 
-    unsound-after : unsoundFor reading after key ≡ false
+    unsound-after : unsound_for reading after key ≡ false
     unsound-after =
-        (both_sound (header_sound after) (touches reading after key) (bucket_sound after (slot (envOf reading after) key))).0
+        (both_sound (header_sound after) (touches reading after key) (bucket_sound after (slot (env_of reading after) key))).0
         (header-after, λ _. ap (bucket_sound after) leads-here ∙ sound-after)
 
     head-after : head_on after key ≡ first_of m.entries
     unfolding head_on key_number
     head-after =
-        let not_own : isOwn (envOf reading after) key ≡ false = ap (λ (x : Env). isOwn x key) env-after ∙ own in
-        let is_kept : isKept (envOf reading after) key ≡ true = ap (λ (x : Env). isKept x key) env-after ∙ kept in
-        rw (unsound-after, whole, not_own, is_kept)
+        let not_own : is_own (env_of reading after) key ≡ false = ap (λ (x : Env). is_own x key) env-after ∙ own in
+        let kept_after : is_kept (env_of reading after) key ≡ true = ap (λ (x : Env). is_kept x key) env-after ∙ kept in
+        rw (unsound-after, whole, not_own, kept_after)
         (ap (λ (i : ℕ). first_of (bucket_at after i).entries) leads-here ∙ ap (λ (x : Contents). first_of x.entries) bucket-after)
 
 -- ---- the claim
@@ -204,7 +204,7 @@ module _ (s : Bytes) (now : ℕ) (unix : UnixSeconds) (address : Bytes) (udp : �
   call = datagram now unix.0 address udp key g
 
   abbrev j : ℕ
-  j = slot (envOf reading s) key
+  j = slot (env_of reading s) key
 
   abbrev b : Contents
   b = bucket_at s j
@@ -221,7 +221,7 @@ module _ (s : Bytes) (now : ℕ) (unix : UnixSeconds) (address : Bytes) (udp : �
     sound-before : SoundAt s j
     sound-before = (ready s now unix address key g udp is_judged).0
 
-    told : (delivered s j now address udp key g x ≡ received s now unix.0 address udp key g) × (after_delivery s j now address udp key g x ≡ bytesAfter reading s call)
+    told : (delivered s j now address udp key g x ≡ received s now unix.0 address udp key g) × (after_delivery s j now address udp key g x ≡ bytes_after reading s call)
     told = done s now unix address key g udp is_judged refl refl
 
     answered : (packet_number s j now address udp key g x ≡ 0) × (accepted now address udp key x b ≡ waiting_pong p head ping)
@@ -231,7 +231,7 @@ module _ (s : Bytes) (now : ℕ) (unix : UnixSeconds) (address : Bytes) (udp : �
     sender-waits : Waits key b x head ping
     sender-waits = waits now address udp key b p head ping x answered.1
 
-    left : bytesAfter reading s call ≡ with_bucket s j (on_pong now key b) now
+    left : bytes_after reading s call ≡ with_bucket s j (on_pong now key b) now
     unfolding after_delivery
     left = sym told.1 ∙ rw (eq-eqb (packet_number s j now address udp key g x) 0 answered.0, sender-waits.packet_is) refl
 
@@ -244,7 +244,7 @@ module _ (s : Bytes) (now : ℕ) (unix : UnixSeconds) (address : Bytes) (udp : �
           values = values-pong now in-range b was.1 key;
         }
 
-    named : head_on (bytesAfter reading s call) key ≡ head_node head ping
+    named : head_on (bytes_after reading s call) key ≡ head_node head ping
     named =
         let facts = passed (datagram_front s now address key (reading g unix.0)) refl front in
         let keyed = facts.1.1.1.1 in

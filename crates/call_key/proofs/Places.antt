@@ -9,8 +9,8 @@ use Rattle.octets.specs.Octets.{Bytes}
 use Rattle.lists.proofs.Laws.{by_test}
 use Rattle.table.specs.declared.Touched.{Touched}
 use Rattle.table.specs.Steps.{touched_by}
-use Rattle.call_history.specs.Model.{isOwn, isKept, slot}
-use Rattle.call_model.specs.Calls.{envOf, unsoundFor}
+use Rattle.call_history.specs.Model.{is_own, is_kept, slot}
+use Rattle.call_model.specs.Calls.{env_of, unsound_for}
 use Rattle.call_model.specs.Reading.{reading}
 use Rattle.call_touched.specs.declared.Placed.{Placed}
 use Rattle.call_touched.specs.declared.Placed.TheVariants.{NotPlaced, In}
@@ -38,25 +38,25 @@ sound_leads s true false true i h = h refl refl refl
 sound_leads s true false false i h = tt
 
 module _ (s key : Bytes) where
-  pub unsound-place : unsoundFor reading s key ≡ true → NotPlaced 1 ≡ key_place s key
+  pub unsound-place : unsound_for reading s key ≡ true → NotPlaced 1 ≡ key_place s key
   unfolding key_place key_number
   unsound-place u = sym (rw u refl)
 
-  module _ (u : unsoundFor reading s key ≡ false) {t : Touched} (e : t ≡ touched_by s key) {r : Placed} (is : r ≡ place_of t) where
-    leads-to : r ≡ place_of (leads (eqb (length key) 64) (isOwn (envOf reading s) key) (isKept (envOf reading s) key) (slot (envOf reading s) key))
+  module _ (u : unsound_for reading s key ≡ false) {t : Touched} (e : t ≡ touched_by s key) {r : Placed} (is : r ≡ place_of t) where
+    leads-to : r ≡ place_of (leads (eqb (length key) 64) (is_own (env_of reading s) key) (is_kept (env_of reading s) key) (slot (env_of reading s) key))
     leads-to = is ∙ ap place_of (e ∙ is-touched s key)
 
     is-place : r ≡ key_place s key
     unfolding key_place key_number
     is-place =
         leads-to
-        ∙ by_leads (eqb (length key) 64) (isOwn (envOf reading s) key) (isKept (envOf reading s) key) (slot (envOf reading s) key)
+        ∙ by_leads (eqb (length key) 64) (is_own (env_of reading s) key) (is_kept (env_of reading s) key) (slot (env_of reading s) key)
         ∙ sym (rw u refl)
 
     is_sound : SoundPlace s r
     is_sound =
         rw leads-to
-        (sound_leads s (eqb (length key) 64) (isOwn (envOf reading s) key) (isKept (envOf reading s) key) (slot (envOf reading s) key) (sound-at s key u))
+        (sound_leads s (eqb (length key) 64) (is_own (env_of reading s) key) (is_kept (env_of reading s) key) (slot (env_of reading s) key) (sound-at s key u))
 
     pub sound-place : (r ≡ key_place s key) × SoundPlace s r
     sound-place = (is-place, is_sound)
@@ -67,16 +67,16 @@ module _ (s key : Bytes) where
     unfolding key_place
     not-placed {n} u =
         by_test (eqb (key_number s key) 0)
-        (λ g. let at : key_place s key ≡ In (slot (envOf reading s) key) = rw g refl in absurd (let z : ◌≡◌ {A = ℕ} 0 1 = cc in omega arith))
+        (λ g. let at : key_place s key ≡ In (slot (env_of reading s) key) = rw g refl in absurd (let z : ◌≡◌ {A = ℕ} 0 1 = cc in omega arith))
         (λ g. let at : key_place s key ≡ NotPlaced (key_number s key) = rw g refl in
         let same : n ≡ key_number s key = cc in
         (g, same))
 
-    pub is_placed : {i : ℕ} → r ≡ In i → (eqb (key_number s key) 0 ≡ true) × (i ≡ slot (envOf reading s) key)
+    pub is_placed : {i : ℕ} → r ≡ In i → (eqb (key_number s key) 0 ≡ true) × (i ≡ slot (env_of reading s) key)
     unfolding key_place
     is_placed {i} u =
         by_test (eqb (key_number s key) 0)
-        (λ g. let at : key_place s key ≡ In (slot (envOf reading s) key) = rw g refl in
-        let same : i ≡ slot (envOf reading s) key = cc in
+        (λ g. let at : key_place s key ≡ In (slot (env_of reading s) key) = rw g refl in
+        let same : i ≡ slot (env_of reading s) key = cc in
         (g, same))
         (λ g. let at : key_place s key ≡ NotPlaced (key_number s key) = rw g refl in absurd (let z : ◌≡◌ {A = ℕ} 0 1 = cc in omega arith))

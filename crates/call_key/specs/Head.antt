@@ -7,7 +7,7 @@ use Rattle.entry.specs.declared.Entry.{Entry}
 use Rattle.entry.specs.declared.PingState.{PingState}
 use Rattle.entry.specs.declared.PingState.TheVariants.{Quiet}
 use Rattle.entry.specs.Nodes.{node_of}
-use Rattle.call_model.specs.Calls.{bucketFor}
+use Rattle.call_model.specs.Calls.{bucket_for}
 use Rattle.call_model.specs.Reading.{reading}
 use Rattle.call_key.specs.declared.HeadNode.{HeadNode}
 use Rattle.call_key.specs.Number.{key_number}
@@ -32,4 +32,4 @@ head_by n entries = cond (eqb n 0) (first_of entries) (no_head n)
 
 -- the answer number, and the first entry of the key's bucket
 unfoldable pub head_on : Bytes → Bytes → HeadNode
-head_on s key = head_by (key_number s key) (bucketFor reading s key).entries
+head_on s key = head_by (key_number s key) (bucket_for reading s key).entries

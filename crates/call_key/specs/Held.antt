@@ -11,7 +11,7 @@ use Rattle.entry.specs.Nodes.{node_of}
 use Rattle.bucket_model.specs.Contents.{Contents}
 use Rattle.bucket_model.specs.Rules.{is_of, held}
 use Rattle.table_model.specs.Layout.{own_of}
-use Rattle.call_model.specs.Calls.{bucketFor}
+use Rattle.call_model.specs.Calls.{bucket_for}
 use Rattle.call_model.specs.Reading.{reading}
 use Rattle.call_key.specs.declared.Held.{Held}
 use Rattle.call_key.specs.declared.Held.TheVariants.{Nowhere, Entry as InEntry, Replacement as InReplacement}
@@ -43,4 +43,4 @@ not_found n = record { number = n; held = Nowhere; node = no_node }
 -- the answer number, and where the key's bucket holds its node
 unfoldable pub found_on : Bytes → Bytes → Found
 found_on s key =
-    cond (eqb (key_number s key) 0) (found_in (log_distance (own_of s) (keccak256 key)) key (bucketFor reading s key)) (not_found (key_number s key))
+    cond (eqb (key_number s key) 0) (found_in (log_distance (own_of s) (keccak256 key)) key (bucket_for reading s key)) (not_found (key_number s key))

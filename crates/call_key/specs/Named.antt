@@ -6,7 +6,7 @@ use Rattle.entry.specs.declared.PingState.{PingState}
 use Rattle.packet.specs.declared.Pong.{Pong}
 use Rattle.call_history.specs.Model.{datagram}
 use Rattle.call_history.specs.Chain.{IsCall}
-use Rattle.call_model.specs.Calls.{bytesAfter}
+use Rattle.call_model.specs.Calls.{bytes_after}
 use Rattle.call_model.specs.Reading.{reading}
 use Rattle.call_answer.specs.declared.Standing.TheVariants.{Waiting}
 use Rattle.call_answer.specs.declared.Outcome.TheVariants as outcome
@@ -23,4 +23,4 @@ abbrev pub HeadNamed : Type 0
 HeadNamed =
     (s : Bytes) (now unix : ℕ) (address : Bytes) (udp : ℕ) (key g : Bytes) → IsBytes s → IsCall (datagram now unix address udp key g)
     → (p : Pong) (head : Node) (ping : PingState) → received s now unix address udp key g ≡ waiting_pong p head ping
-    → head_on (bytesAfter reading s (datagram now unix address udp key g)) key ≡ head_node head ping
+    → head_on (bytes_after reading s (datagram now unix address udp key g)) key ≡ head_node head ping

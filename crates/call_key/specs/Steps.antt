@@ -6,7 +6,7 @@ use Rattle.bucket.specs.declared.Position.TheVariants.{Absent, InEntries, InRepl
 use Rattle.table.specs.declared.Touched.{Touched}
 use Rattle.table.specs.declared.Touched.TheVariants.{WrongKey, Own, NotKept, Slot}
 use Rattle.call_history.specs.Model.{slot}
-use Rattle.call_model.specs.Calls.{envOf}
+use Rattle.call_model.specs.Calls.{env_of}
 use Rattle.call_model.specs.Reading.{reading}
 use Rattle.call_touched.specs.declared.Placed.{Placed}
 use Rattle.call_touched.specs.declared.Placed.TheVariants.{NotPlaced, In}
@@ -23,7 +23,7 @@ place_of (Slot i) = In i
 
 -- the answer number where it isn't 0, else the slot of the key's bucket
 unfoldable pub key_place : Bytes → Bytes → Placed
-key_place s key = cond (eqb (key_number s key) 0) (In (slot (envOf reading s) key)) (NotPlaced (key_number s key))
+key_place s key = cond (eqb (key_number s key) 0) (In (slot (env_of reading s) key)) (NotPlaced (key_number s key))
 
 -- the bucket in a slot is there and sound
 abbrev pub SoundPlace : Bytes → Placed → Type 0

@@ -1,5 +1,7 @@
 // What a lent table tells of a key: the head of its bucket, and whether its node is held and where. Only the bucket that the key touches is
 // tested.
+#![tactic(auto)]
+
 ghost use Rattle.std.specs.Prelude.{◌≡◌, ◌+◌, ◌-◌};
 ghost use Rattle.table_model.specs.Layout.{count_of, bucket_at};
 ghost use Rattle.call_touched.specs.Steps.{SoundAt};
@@ -41,7 +43,7 @@ fn key_place(table: &[u8], key: &[u8]) -> Placed
 // ---- the head of its bucket
 
 // The answer number, the first entry of a bucket as a node record, zeros where there is none, and its ping state.
-#[derive(Drop)]
+#[derive(Clone, Copy)]
 pub struct HeadNode {
     pub number: u8,
     pub node: Node,
@@ -94,7 +96,7 @@ pub fn head(table: &[u8], key: &[u8]) -> HeadNode
 // ---- whether its node is held
 
 // Where a node is held, with the logarithmic distance of its bucket and its place there, counted from 1.
-#[derive(Drop)]
+#[derive(Clone, Copy)]
 pub enum Held {
     Nowhere,
     // A seat.
@@ -104,7 +106,7 @@ pub enum Held {
 }
 
 // The answer number, where a node is held, and its node record, zeros where it isn't held.
-#[derive(Drop)]
+#[derive(Clone, Copy)]
 pub struct Found {
     pub number: u8,
     pub held: Held,

@@ -12,8 +12,8 @@ use Rattle.clock32.proofs.Laws.{widens}
 use Rattle.table_model.specs.Layout.{clock_of}
 use Rattle.call_history.specs.Model.{Call, datagram, ping_sent, sweep, closest, unclocked}
 use Rattle.call_history.specs.Demand3.{clock_reading}
-use Rattle.call_history.specs.Chain.{IsCall, answersOn, bytesAfterAll}
-use Rattle.call_model.specs.Calls.{answerOn, bytesAfter}
+use Rattle.call_history.specs.Chain.{IsCall, answers_on, bytes_after_all}
+use Rattle.call_model.specs.Calls.{answer_on, bytes_after}
 use Rattle.call_model.specs.Reading.{reading}
 use Rattle.call_low.specs.Got.{has_clock, at_millis, clocked, got, answer_low, bytes_low, got_all}
 
@@ -44,10 +44,10 @@ all_got s (c ∷ cs) are = (got_is (clock_of s) c are.0, all_got (bytes_low s c)
 
 -- ---- the numbers and the bytes
 
-pub got_numbers : (s : Bytes) (cs : List Call) → answersOn answer_low bytes_low s cs ≡ answersOn (answerOn reading) (bytesAfter reading) s (got_all s cs)
+pub got_numbers : (s : Bytes) (cs : List Call) → answers_on answer_low bytes_low s cs ≡ answers_on (answer_on reading) (bytes_after reading) s (got_all s cs)
 got_numbers s [] = refl
 got_numbers s (c ∷ cs) = ap (λ (ns : List ℕ). answer_low s c ∷ ns) (got_numbers (bytes_low s c) cs)
 
-pub got_bytes : (s : Bytes) (cs : List Call) → bytesAfterAll answer_low bytes_low s cs ≡ bytesAfterAll (answerOn reading) (bytesAfter reading) s (got_all s cs)
+pub got_bytes : (s : Bytes) (cs : List Call) → bytes_after_all answer_low bytes_low s cs ≡ bytes_after_all (answer_on reading) (bytes_after reading) s (got_all s cs)
 got_bytes s [] = refl
 got_bytes s (c ∷ cs) = got_bytes (bytes_low s c) cs

@@ -17,7 +17,7 @@ use Rattle.table_model.proofs.Header.{header-sound}
 use Rattle.table_model.specs.Sound.{buckets_sound, table_sound}
 use Rattle.call_history.specs.Model.{Call, datagram, ping_sent, sweep, closest, unclocked}
 use Rattle.call_history.specs.Demand3.{clock_reading}
-use Rattle.call_model.specs.Calls.{unsoundOn, answerOn, bytesAfter}
+use Rattle.call_model.specs.Calls.{unsound_on, answer_on, bytes_after}
 use Rattle.call_model.specs.AnyBytes.{SoundFor}
 use Rattle.call_model.specs.Reading.{reading}
 use Rattle.call_model.proofs.AnyBytes.{on-any-bytes}
@@ -93,19 +93,19 @@ no_table s h (closest target room) ok = never (sym (and_left (header_sound s) (b
 no_table s h (unclocked c) ok = no_table s h c ok
 
 module _ (s : Bytes) (c : Call) where
-  unsound-number : header_sound s ≡ false → answerOn reading s c ≡ 1
+  unsound-number : header_sound s ≡ false → answer_on reading s c ≡ 1
   unsound-number h = ((on-any-bytes reading).one-exactly s c).1 (no_table s h c)
 
-  unsound-bytes : header_sound s ≡ false → bytesAfter reading s c ≡ s
+  unsound-bytes : header_sound s ≡ false → bytes_after reading s c ≡ s
   unsound-bytes h = (on-any-bytes reading).refused_unchanged s c (λ z. absurd (omega (arith, unsound-number h)))
 
-  unclocked-number : answerOn reading s (unclocked c) ≡ back_number (unsoundOn reading s c)
-  unfolding answerOn
+  unclocked-number : answer_on reading s (unclocked c) ≡ back_number (unsound_on reading s c)
+  unfolding answer_on
   unclocked-number = refl
 
-  unclocked-bytes : bytesAfter reading s (unclocked c) ≡ s
-  unfolding bytesAfter
-  unclocked-bytes = by_test (eqb (answerOn reading s (unclocked c)) 0) (λ h. rw h refl) (λ h. rw h refl)
+  unclocked-bytes : bytes_after reading s (unclocked c) ≡ s
+  unfolding bytes_after
+  unclocked-bytes = by_test (eqb (answer_on reading s (unclocked c)) 0) (λ h. rw h refl) (λ h. rw h refl)
 
   pub got-untimed : (clock : ℕ) → has_clock c ≡ false → got clock c ≡ c
   unfolding got
@@ -126,7 +126,7 @@ module _ (s : Bytes) (c : Call) (timed : has_clock c ≡ true) where
       let none : header_sound s ≡ false = no_header s (was_unsound (roomy s) (widened (clock_of s) (clock_reading 0 c)) h) in
       (sym (unsound-number s (got (clock_of s) c) none), sym (unsound-bytes s (got (clock_of s) c) none))
 
-  pub low-back : {n : ℕ} → front ≡ Back → n ≡ back_number (unsoundOn reading s c) → (n ≡ answer_low s c) × (s ≡ bytes_low s c)
+  pub low-back : {n : ℕ} → front ≡ Back → n ≡ back_number (unsound_on reading s c) → (n ≡ answer_low s c) × (s ≡ bytes_low s c)
   unfolding low_clock
   low-back h e =
       let is : got (clock_of s) c ≡ unclocked c =
@@ -134,7 +134,7 @@ module _ (s : Bytes) (c : Call) (timed : has_clock c ≡ true) where
       rw is (e ∙ sym (unclocked-number s c), sym (unclocked-bytes s c))
 
   pub low-at : {n : ℕ} {s' : Bytes} (t : MonotonicMillis) → front ≡ At t
-      → n ≡ answerOn reading s (at_millis c t.0) → s' ≡ bytesAfter reading s (at_millis c t.0) → (n ≡ answer_low s c) × (s' ≡ bytes_low s c)
+      → n ≡ answer_on reading s (at_millis c t.0) → s' ≡ bytes_after reading s (at_millis c t.0) → (n ≡ answer_low s c) × (s' ≡ bytes_low s c)
   unfolding low_clock
   low-at t h e e' =
       let is : got (clock_of s) c ≡ at_millis c t.0 =
@@ -156,7 +156,7 @@ module _ (s : Bytes) (r unix : ℕ) (address : Bytes) (udp : ℕ) (key g : Bytes
   unfolding low_clock received_low
   answer-unsound h is = is ∙ refused-by (no_header s (was_unsound (roomy s) (widened (clock_of s) r) h)) (widened (clock_of s) r)
 
-  pub answer_back : {x : Received} {n : ℕ} → low_clock s r ≡ Back → n ≡ back_number (unsoundOn reading s it) → x ≡ refusal n → x ≡ received_low s r unix address udp key g
+  pub answer_back : {x : Received} {n : ℕ} → low_clock s r ≡ Back → n ≡ back_number (unsound_on reading s it) → x ≡ refusal n → x ≡ received_low s r unix address udp key g
   unfolding low_clock received_low
   answer_back h e is = rw (was_back (roomy s) (widened (clock_of s) r) h) (is ∙ ap refusal (e ∙ sym (unclocked-number s it)))
 
@@ -165,7 +165,7 @@ module _ (s : Bytes) (r unix : ℕ) (address : Bytes) (udp : ℕ) (key g : Bytes
   answer_at t h is = rw (was_at (roomy s) (widened (clock_of s) r) t h) is
 
   -- its number is the call's
-  number_by : (w : Widened) → number_of (received_by w s r unix address udp key g) ≡ answerOn reading s (clocked w it)
+  number_by : (w : Widened) → number_of (received_by w s r unix address udp key g) ≡ answer_on reading s (clocked w it)
   number_by (wide.At t) = answer-number s t.0 (record { 0 = unix }) address udp key g
   number_by wide.Back = refl
 

@@ -7,7 +7,7 @@ use Rattle.clock32.specs.Widened.{widened}
 use Rattle.table_model.specs.Layout.{clock_of, header_sound}
 use Rattle.call_history.specs.Model.{Call, datagram, ping_sent, sweep, closest, unclocked}
 use Rattle.call_history.specs.Demand3.{clock_reading}
-use Rattle.call_model.specs.Calls.{answerOn, bytesAfter}
+use Rattle.call_model.specs.Calls.{answer_on, bytes_after}
 use Rattle.call_model.specs.Reading.{reading}
 use Rattle.call_answer.specs.declared.Received.{Received}
 use Rattle.call_answer.specs.Answer.{refusal}
@@ -59,10 +59,10 @@ full_clock_number (full.At t) = 0
 
 -- a call's answer number on a table's bytes, and the bytes that it leaves
 abbrev pub answer_low : Bytes → Call → ℕ
-answer_low s c = answerOn reading s (got (clock_of s) c)
+answer_low s c = answer_on reading s (got (clock_of s) c)
 
 abbrev pub bytes_low : Bytes → Call → Bytes
-bytes_low s c = bytesAfter reading s (got (clock_of s) c)
+bytes_low s c = bytes_after reading s (got (clock_of s) c)
 
 -- the calls of a list, one after the other: "Demand 3 is read over the widened clock as each call got it"
 abbrev pub got_all : Bytes → List Call → List Call
@@ -72,7 +72,7 @@ got_all s (c ∷ cs) = got (clock_of s) c ∷ got_all (bytes_low s c) cs
 -- the answer to a datagram as it got its clock
 abbrev pub received_by : Widened → Bytes → ℕ → ℕ → Bytes → ℕ → Bytes → Bytes → Received
 received_by (At t) s r unix address udp key g = received s t.0 unix address udp key g
-received_by Back s r unix address udp key g = refusal (answerOn reading s (unclocked (datagram r unix address udp key g)))
+received_by Back s r unix address udp key g = refusal (answer_on reading s (unclocked (datagram r unix address udp key g)))
 
 unfoldable pub received_low : Bytes → ℕ → ℕ → Bytes → ℕ → Bytes → Bytes → Received
 received_low s r unix address udp key g = received_by (widened (clock_of s) r) s r unix address udp key g

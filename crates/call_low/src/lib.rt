@@ -1,10 +1,12 @@
 // The calls with a clock, by a reading of 32 bits: the table's clock makes it the full one, once for all of them, and the call is the one with
 // that clock. For any bytes.
+#![tactic(auto)]
+
 ghost use Rattle.std.specs.Prelude.{◌≡◌, not};
 ghost use Rattle.table_model.specs.Layout.{clock_of};
 ghost use Rattle.table_model.specs.Sound.{table_sound};
 ghost use Rattle.call_history.specs.Model as model;
-ghost use Rattle.call_model.specs.Calls.{unsoundFor};
+ghost use Rattle.call_model.specs.Calls.{unsound_for};
 ghost use Rattle.call_model.specs.Reading.{reading};
 ghost use Rattle.call_low.specs.Got.{full_clock, answer_low, bytes_low, received_low};
 ghost use Rattle.call_low.specs.Steps.{low_clock, back_number};
@@ -15,7 +17,7 @@ use clock32::{LowMillis, Widened};
 use node::{MonotonicMillis, UnixSeconds};
 
 // What a reading gives on a table.
-#[derive(Drop)]
+#[derive(Clone, Copy)]
 pub enum FullClock {
     // Answer 1: the table has no clock.
     Unsound,
@@ -50,7 +52,7 @@ pub fn full_clock(table: &[u8], reading: LowMillis) -> FullClock
 
 // The answer number of a call with this key whose reading went back.
 pub fn back_number(table: &[u8], key: &[u8]) -> u8
-    ensures { result ≡ back_number (unsoundFor reading table.now key.now) }
+    ensures { result ≡ back_number (unsound_for reading table.now key.now) }
 {
     let reached = call_touched::reached_by(table, key);
     match reached {

@@ -18,7 +18,7 @@ use Rattle.call_history.specs.Model.{Env, Reading, Call, datagram, ping_sent, sw
 use Rattle.call_history.specs.Keccak.{with_keccak}
 use Rattle.call_history.specs.Chain.{IsCall}
 use Rattle.call_history.proofs.Sound.{TableSound, IsTable, next-sound, next-values}
-use Rattle.call_model.specs.Calls.{answerOn, effectOn, bytesAfter}
+use Rattle.call_model.specs.Calls.{answer_on, effect_on, bytes_after}
 use Rattle.call_model.specs.OverBytes.{encode}
 use Rattle.call_model.specs.AnyBytes.{OnAnyBytes}
 use Rattle.call_model.specs.Claims.{table_in}
@@ -28,16 +28,16 @@ use Rattle.call_model.proofs.Numbers.{number_listed, one-exactly}
 
 module _ (read : Bytes → ℕ → Reading) where
   -- what holds of the bytes as they were and of an accepted call's effect holds of what the call leaves
-  byBytes : (P : Bytes → Type 0) (s : Bytes) (c : Call) → P (effectOn read s c) → P s → P (bytesAfter read s c)
-  unfolding bytesAfter
-  byBytes P s c f g = by_test (eqb (answerOn read s c) 0) (λ h. rw h f) (λ h. rw h g)
+  by_bytes : (P : Bytes → Type 0) (s : Bytes) (c : Call) → P (effect_on read s c) → P s → P (bytes_after read s c)
+  unfolding bytes_after
+  by_bytes P s c f g = by_test (eqb (answer_on read s c) 0) (λ h. rw h f) (λ h. rw h g)
 
-  refused_unchanged : (s : Bytes) (c : Call) → (answerOn read s c ≡ 0 → ⊥) → bytesAfter read s c ≡ s
-  unfolding bytesAfter
-  refused_unchanged s c h = rw (ne_eqb (answerOn read s c) 0 h) refl
+  refused_unchanged : (s : Bytes) (c : Call) → (answer_on read s c ≡ 0 → ⊥) → bytes_after read s c ≡ s
+  unfolding bytes_after
+  refused_unchanged s c h = rw (ne_eqb (answer_on read s c) 0 h) refl
 
-  closest-unchanged : (s target : Bytes) (room : ℕ) → bytesAfter read s (closest target room) ≡ s
-  closest-unchanged s target room = byBytes (λ m. m ≡ s) s (closest target room) refl refl
+  closest-unchanged : (s target : Bytes) (room : ℕ) → bytes_after read s (closest target room) ≡ s
+  closest-unchanged s target room = by_bytes (λ m. m ≡ s) s (closest target room) refl refl
 
   -- ---- on sound bytes
 
@@ -60,9 +60,9 @@ module _ (read : Bytes → ℕ → Reading) where
     abbrev values : IsTable e t
     values = form-values read (own_of s) own_bytes t form
 
-    left : bytesAfter read s c ≡ encode (own_of s) (next e t c)
+    left : bytes_after read s c ≡ encode (own_of s) (next e t c)
     left =
-        ap (λ m. bytesAfter read m c) (sym (table_of_sound s bytes ok))
+        ap (λ m. bytes_after read m c) (sym (table_of_sound s bytes ok))
         ∙ (step_on_form read (own_of s) t own_bytes form c is).1
 
     after : SoundTable (own_of s) (next e t c).clock (next e t c).buckets
@@ -70,10 +70,10 @@ module _ (read : Bytes → ℕ → Reading) where
         table-form read (own_of s) (length (buckets_of s)) form.one form.most (next e t c)
         (next-sound e t rules-hold c) (next-values e t rules-hold values c is)
 
-    sound-kept : table_sound (bytesAfter read s c) ≡ true
+    sound-kept : table_sound (bytes_after read s c) ≡ true
     sound-kept = ap table_sound left ∙ form_is_sound (own_of s) (next e t c).clock (next e t c).buckets after
 
-    sound-length : length (bytesAfter read s c) ≡ length s
+    sound-length : length (bytes_after read s c) ≡ length s
     sound-length =
         ap length left
         ∙ length-table (own_of s) (next e t c).clock (next e t c).buckets form.own_size (sized-table (own_of s) (next e t c).clock (next e t c).buckets after)
@@ -83,19 +83,19 @@ module _ (read : Bytes → ℕ → Reading) where
 
   -- ---- the length
 
-  length-kept : (s : Bytes) (c : Call) → IsBytes s → IsCall c → length (bytesAfter read s c) ≡ length s
+  length-kept : (s : Bytes) (c : Call) → IsBytes s → IsCall c → length (bytes_after read s c) ≡ length s
   length-kept s (datagram now unix address udp key bytes) bs is =
-      byBytes (λ m. length m ≡ length s) s (datagram now unix address udp key bytes) (simp length-store) refl
+      by_bytes (λ m. length m ≡ length s) s (datagram now unix address udp key bytes) (simp length-store) refl
   length-kept s (ping_sent now key address udp tcp hash) bs is =
-      byBytes (λ m. length m ≡ length s) s (ping_sent now key address udp tcp hash) (simp length-store) refl
+      by_bytes (λ m. length m ≡ length s) s (ping_sent now key address udp tcp hash) (simp length-store) refl
   length-kept s (sweep now) bs is =
       by_test (table_sound s)
       (λ ok. sound-length s bs ok (sweep now) is)
       (λ h.
-      let one : answerOn read s (sweep now) ≡ 1 = (one-exactly read s (sweep now)).1 (λ ok. never (sym ok ∙ h)) in
+      let one : answer_on read s (sweep now) ≡ 1 = (one-exactly read s (sweep now)).1 (λ ok. never (sym ok ∙ h)) in
       ap length (refused_unchanged s (sweep now) (λ z. absurd (omega arith))))
   length-kept s (closest target room) bs is = ap length (closest-unchanged s target room)
-  length-kept s (unclocked c) bs is = byBytes (λ m. length m ≡ length s) s (unclocked c) refl refl
+  length-kept s (unclocked c) bs is = by_bytes (λ m. length m ≡ length s) s (unclocked c) refl refl
 
   pub on-any-bytes : OnAnyBytes read
   on-any-bytes =

@@ -7,7 +7,7 @@ use Rattle.call_history.specs.Model.{Reading}
 use Rattle.call_history.specs.Keccak.{with_keccak}
 use Rattle.call_history.proofs.Step.{keccak_lawful}
 use Rattle.call_history.proofs.Chain.{demand3-on-bytes}
-use Rattle.call_model.specs.Calls.{answerOn, bytesAfter}
+use Rattle.call_model.specs.Calls.{answer_on, bytes_after}
 use Rattle.call_model.specs.OverBytes.{encode, Demand3OverBytes}
 use Rattle.call_model.specs.Reading.{reading}
 use Rattle.call_model.proofs.Step.{step_follows}
@@ -15,7 +15,7 @@ use Rattle.call_model.proofs.Step.{step_follows}
 pub demand3_over_bytes : (read : Bytes → ℕ → Reading) → Demand3OverBytes read
 demand3_over_bytes read key count one most calls are =
     let own : Bytes = keccak256 key in
-    demand3-on-bytes (answerOn read) (bytesAfter read) (with_keccak read own count) (encode own)
+    demand3-on-bytes (answer_on read) (bytes_after read) (with_keccak read own count) (encode own)
     (keccak_lawful read own count (keccak256-length key) (keccak256_bytes key))
     (step_follows read own count one most) calls are
 

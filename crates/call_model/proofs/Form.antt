@@ -17,11 +17,11 @@ use Rattle.table_model.specs.Layout as layout
 use Rattle.table_model.specs.Sound.{bucket_sound, buckets_sound}
 use Rattle.table_model.specs.Facts.{SoundTable}
 use Rattle.table_model.proofs.Sound.{own_back, clock-back, count-back, bucket-at-back, header-of-form, buckets-of-form, all-below}
-use Rattle.call_history.specs.Model.{Env, Reading, Table, distance_to, bucketNumber, slot, bucketOf}
+use Rattle.call_history.specs.Model.{Env, Reading, Table, distance_to, bucket_number, slot, bucket_of}
 use Rattle.call_history.specs.Keccak.{with_keccak}
 use Rattle.call_history.proofs.Sound.{TableSound, IsTable, table-sound}
 use Rattle.call_history.proofs.Step.{keccak_lawful}
-use Rattle.call_model.specs.Calls.{envOf, touches, bucketFor, unsoundFor}
+use Rattle.call_model.specs.Calls.{env_of, touches, bucket_for, unsound_for}
 use Rattle.call_model.specs.OverBytes.{encode}
 
 -- 1 does not apply where the header is sound, and the key's bucket where it is touched
@@ -32,7 +32,7 @@ both_sound false touched bucket = ((λ h. never (sym h.0)), (λ h. never h))
 
 -- where a table has buckets, a key's slot is one of them, also where its bucket isn't kept
 pub slot_below : (e : Env) → 1 ≤ e.kept → e.kept ≤ 256 → (key : Bytes) → slot e key < e.kept
-unfolding bucketNumber
+unfolding bucket_number
 slot_below e one most key = omega (arith, bit_length-most (distance_to e key))
 
 module _ (read : Bytes → ℕ → Reading) where
@@ -78,30 +78,30 @@ module _ (read : Bytes → ℕ → Reading) where
     abbrev s : Bytes
     s = encode own t
 
-    env-back : envOf read s ≡ e
+    env-back : env_of read s ≡ e
     env-back = ap₂ (with_keccak read) (own_back own t.clock t.buckets f) (count-back own t.clock t.buckets f)
 
     module _ (key : Bytes) where
       fits : slot e key < length t.buckets
       fits = slot_below e f.one f.most key
 
-      bucket-back : bucketFor read s key ≡ bucketOf e t key
+      bucket-back : bucket_for read s key ≡ bucket_of e t key
       bucket-back = ap (λ (x : Env). layout.bucket_at s (slot x key)) env-back ∙ bucket-at-back own t.clock t.buckets f (slot e key) fits
 
       -- the rules, the clock and the key's bucket are the table's
-      pub reads : {A : Type 0} (P : Env → ℕ → Contents → A) → P (envOf read s) (clock_of s) (bucketFor read s key) ≡ P e t.clock (bucketOf e t key)
+      pub reads : {A : Type 0} (P : Env → ℕ → Contents → A) → P (env_of read s) (clock_of s) (bucket_for read s key) ≡ P e t.clock (bucket_of e t key)
       reads P =
-          ap (λ x. P x (clock_of s) (bucketFor read s key)) env-back
+          ap (λ x. P x (clock_of s) (bucket_for read s key)) env-back
           ∙ ap₂ (P e) (clock-back own t.clock t.buckets f) bucket-back
 
-      slot-sound : bucket_sound s (slot (envOf read s) key) ≡ true
+      slot-sound : bucket_sound s (slot (env_of read s) key) ≡ true
       unfolding buckets_sound
       slot-sound =
           ap (λ (x : Env). bucket_sound s (slot x key)) env-back
           ∙ all-below (count_of s) (bucket_sound s) (buckets-of-form own t.clock t.buckets f) (slot e key)
           (omega (arith, fits, count-back own t.clock t.buckets f))
 
-      pub not-unsound : unsoundFor read s key ≡ false
+      pub not-unsound : unsound_for read s key ≡ false
       not-unsound =
-          (both_sound (header_sound s) (touches read s key) (bucket_sound s (slot (envOf read s) key))).0
+          (both_sound (header_sound s) (touches read s key) (bucket_sound s (slot (env_of read s) key))).0
           (header-of-form own t.clock t.buckets f, λ _. slot-sound)

@@ -13,8 +13,8 @@ use Rattle.lists.proofs.Laws.{by_test, never, and_left, and_right}
 use Rattle.bucket_model.specs.Contents.{Contents}
 use Rattle.table_model.specs.Layout.{clock_of, header_sound}
 use Rattle.table_model.specs.Sound.{bucket_sound, table_sound}
-use Rattle.call_history.specs.Model.{Env, Reading, refused, ping, pong, other, Call, datagram, ping_sent, sweep, closest, unclocked, isOwn, isKept, slot, datagramRefusals, pingSentRefusals}
-use Rattle.call_model.specs.Calls.{envOf, touches, bucketFor, unsoundFor, unsoundOn, answerOn}
+use Rattle.call_history.specs.Model.{Env, Reading, refused, ping, pong, other, Call, datagram, ping_sent, sweep, closest, unclocked, is_own, is_kept, slot, datagram_refusals, ping_sent_refusals}
+use Rattle.call_model.specs.Calls.{env_of, touches, bucket_for, unsound_for, unsound_on, answer_on}
 use Rattle.call_model.specs.AnyBytes.{numbers_of, IsTouched, SoundForKey, SoundFor}
 use Rattle.call_model.proofs.Form.{both_sound}
 
@@ -39,28 +39,28 @@ module _ (read : Bytes → ℕ → Reading) where
   -- the tests of the other numbers than 1
   abbrev others : Bytes → Call → List (Bool × ℕ)
   others s (datagram now unix address udp key bytes) =
-      datagramRefusals (envOf read s) (clock_of s) (bucketFor read s key) now address udp key (read bytes unix)
-  others s (ping_sent now key address udp tcp hash) = pingSentRefusals (envOf read s) (clock_of s) (bucketFor read s key) now key address udp hash
+      datagram_refusals (env_of read s) (clock_of s) (bucket_for read s key) now address udp key (read bytes unix)
+  others s (ping_sent now key address udp tcp hash) = ping_sent_refusals (env_of read s) (clock_of s) (bucket_for read s key) now key address udp hash
   others s (sweep now) = (ltb now (clock_of s), 2) ∷ []
   others s (closest target room) = (not (eqb (length target) 64), 5) ∷ (ltb room 16, 19) ∷ []
   others s (unclocked c) = (true, 2) ∷ []
 
-  answer-is : (s : Bytes) (c : Call) → answerOn read s c ≡ cond (unsoundOn read s c) 1 (first (others s c))
-  unfolding answerOn
+  answer-is : (s : Bytes) (c : Call) → answer_on read s c ≡ cond (unsound_on read s c) 1 (first (others s c))
+  unfolding answer_on
   answer-is s (datagram now unix address udp key bytes) = refl
   answer-is s (ping_sent now key address udp tcp hash) = refl
   answer-is s (sweep now) = refl
   answer-is s (closest target room) = refl
   answer-is s (unclocked c) = refl
 
-  abbrev othersOf : Call → List ℕ
-  othersOf (datagram now unix address udp key bytes) = 0 ∷ drop 2 (numbers_of (datagram now unix address udp key bytes))
-  othersOf (ping_sent now key address udp tcp hash) = 0 ∷ drop 2 (numbers_of (ping_sent now key address udp tcp hash))
-  othersOf (sweep now) = 0 ∷ drop 2 (numbers_of (sweep now))
-  othersOf (closest target room) = 0 ∷ drop 2 (numbers_of (closest target room))
-  othersOf (unclocked c) = drop 1 (numbers_of (unclocked c))
+  abbrev others_of : Call → List ℕ
+  others_of (datagram now unix address udp key bytes) = 0 ∷ drop 2 (numbers_of (datagram now unix address udp key bytes))
+  others_of (ping_sent now key address udp tcp hash) = 0 ∷ drop 2 (numbers_of (ping_sent now key address udp tcp hash))
+  others_of (sweep now) = 0 ∷ drop 2 (numbers_of (sweep now))
+  others_of (closest target room) = 0 ∷ drop 2 (numbers_of (closest target room))
+  others_of (unclocked c) = drop 1 (numbers_of (unclocked c))
 
-  with-others : (c : Call) (n : ℕ) → any (eqb n) (othersOf c) ≡ true → any (eqb n) (numbers_of c) ≡ true
+  with-others : (c : Call) (n : ℕ) → any (eqb n) (others_of c) ≡ true → any (eqb n) (numbers_of c) ≡ true
   with-others (datagram now unix address udp key bytes) n = with_zero_one n (drop 2 (numbers_of (datagram now unix address udp key bytes)))
   with-others (ping_sent now key address udp tcp hash) n = with_zero_one n (drop 2 (numbers_of (ping_sent now key address udp tcp hash)))
   with-others (sweep now) n = with_zero_one n (drop 2 (numbers_of (sweep now)))
@@ -68,22 +68,22 @@ module _ (read : Bytes → ℕ → Reading) where
   with-others (unclocked c) n = with_one n (drop 1 (numbers_of (unclocked c)))
 
   datagram-listed : (e : Env) (clock : ℕ) (b : Contents) (now unix : ℕ) (address : Bytes) (udp : ℕ) (key bytes : Bytes) (r : Reading)
-      → all (λ t. any (eqb t.1) (othersOf (datagram now unix address udp key bytes))) (datagramRefusals e clock b now address udp key r) ≡ true
-  unfolding datagramRefusals
+      → all (λ t. any (eqb t.1) (others_of (datagram now unix address udp key bytes))) (datagram_refusals e clock b now address udp key r) ≡ true
+  unfolding datagram_refusals
   datagram-listed e clock b now unix address udp key bytes (refused fault) = refl
   datagram-listed e clock b now unix address udp key bytes ping = refl
   datagram-listed e clock b now unix address udp key bytes (pong hash) = refl
   datagram-listed e clock b now unix address udp key bytes other = refl
 
-  others-listed : (s : Bytes) (c : Call) → any (eqb (first (others s c))) (othersOf c) ≡ true
-  unfolding pingSentRefusals
+  others-listed : (s : Bytes) (c : Call) → any (eqb (first (others s c))) (others_of c) ≡ true
+  unfolding ping_sent_refusals
   others-listed s (datagram now unix address udp key bytes) =
-      first-listed (others s (datagram now unix address udp key bytes)) (othersOf (datagram now unix address udp key bytes)) refl
-      (datagram-listed (envOf read s) (clock_of s) (bucketFor read s key) now unix address udp key bytes (read bytes unix))
+      first-listed (others s (datagram now unix address udp key bytes)) (others_of (datagram now unix address udp key bytes)) refl
+      (datagram-listed (env_of read s) (clock_of s) (bucket_for read s key) now unix address udp key bytes (read bytes unix))
   others-listed s (ping_sent now key address udp tcp hash) =
-      first-listed (others s (ping_sent now key address udp tcp hash)) (othersOf (ping_sent now key address udp tcp hash)) refl refl
-  others-listed s (sweep now) = first-listed (others s (sweep now)) (othersOf (sweep now)) refl refl
-  others-listed s (closest target room) = first-listed (others s (closest target room)) (othersOf (closest target room)) refl refl
+      first-listed (others s (ping_sent now key address udp tcp hash)) (others_of (ping_sent now key address udp tcp hash)) refl refl
+  others-listed s (sweep now) = first-listed (others s (sweep now)) (others_of (sweep now)) refl refl
+  others-listed s (closest target room) = first-listed (others s (closest target room)) (others_of (closest target room)) refl refl
   others-listed s (unclocked c) = refl
 
   one-listed : (c : Call) → any (eqb 1) (numbers_of c) ≡ true
@@ -93,16 +93,16 @@ module _ (read : Bytes → ℕ → Reading) where
   one-listed (closest target room) = refl
   one-listed (unclocked c) = refl
 
-  pub number_listed : (s : Bytes) (c : Call) → any (eqb (answerOn read s c)) (numbers_of c) ≡ true
+  pub number_listed : (s : Bytes) (c : Call) → any (eqb (answer_on read s c)) (numbers_of c) ≡ true
   number_listed s c =
       rw (answer-is s c)
-      (by_test (unsoundOn read s c)
+      (by_test (unsound_on read s c)
       (λ h. rw h (one-listed c))
       (λ h. rw h (with-others c (first (others s c)) (others-listed s c))))
 
   -- ---- 1
 
-  one_free : (c : Call) → any (eqb 1) (othersOf c) ≡ false
+  one_free : (c : Call) → any (eqb 1) (others_of c) ≡ false
   one_free (datagram now unix address udp key bytes) = refl
   one_free (ping_sent now key address udp tcp hash) = refl
   one_free (sweep now) = refl
@@ -110,36 +110,36 @@ module _ (read : Bytes → ℕ → Reading) where
   one_free (unclocked c) = refl
 
   others-not-one : (s : Bytes) (c : Call) → first (others s c) ≡ 1 → ⊥
-  others-not-one s c h = never (sym (others-listed s c) ∙ ap (λ n. any (eqb n) (othersOf c)) h ∙ one_free c)
+  others-not-one s c h = never (sym (others-listed s c) ∙ ap (λ n. any (eqb n) (others_of c)) h ∙ one_free c)
 
   touched : (s key : Bytes) → (touches read s key ≡ true) ↔ IsTouched read s key
   touched s key =
       let whole = eqb (length key) 64 in
-      let is_own = isOwn (envOf read s) key in
-      let is_kept = isKept (envOf read s) key in (
+      let own_key = is_own (env_of read s) key in
+      let kept_key = is_kept (env_of read s) key in (
         (λ h.
-            let rest = and_right whole (not is_own && is_kept) h in
-            (eqb-true (length key) 64 (and_left whole (not is_own && is_kept) h), not-true is_own (and_left (not is_own) is_kept rest), and_right (not is_own) is_kept rest)),
+            let rest = and_right whole (not own_key && kept_key) h in
+            (eqb-true (length key) 64 (and_left whole (not own_key && kept_key) h), not-true own_key (and_left (not own_key) kept_key rest), and_right (not own_key) kept_key rest)),
         (λ h. rw (eq-eqb (length key) 64 h.0, h.1, h.2) refl),
       )
 
   -- 1 applies where something that the call touches is not sound
-  key-sound : (s key : Bytes) → SoundForKey read s key ↔ (unsoundFor read s key ≡ false)
+  key-sound : (s key : Bytes) → SoundForKey read s key ↔ (unsound_for read s key ≡ false)
   key-sound s key =
-      let tests = both_sound (header_sound s) (touches read s key) (bucket_sound s (slot (envOf read s) key)) in (
+      let tests = both_sound (header_sound s) (touches read s key) (bucket_sound s (slot (env_of read s) key)) in (
         (λ h. tests.0 (h.0, λ t. h.1 ((touched s key).0 t))),
         (λ h. ((tests.1 h).0, λ t. (tests.1 h).1 ((touched s key).1 t))),
       )
 
-  unsound-exactly : (s : Bytes) (c : Call) → SoundFor read s c ↔ (unsoundOn read s c ≡ false)
+  unsound-exactly : (s : Bytes) (c : Call) → SoundFor read s c ↔ (unsound_on read s c ≡ false)
   unsound-exactly s (datagram now unix address udp key bytes) = key-sound s key
   unsound-exactly s (ping_sent now key address udp tcp hash) = key-sound s key
   unsound-exactly s (sweep now) = ((λ h. ap not h), (λ h. not-false (table_sound s) h))
   unsound-exactly s (closest target room) = ((λ h. ap not h), (λ h. not-false (table_sound s) h))
   unsound-exactly s (unclocked c) = unsound-exactly s c
 
-  pub one-exactly : (s : Bytes) (c : Call) → (answerOn read s c ≡ 1) ↔ (SoundFor read s c → ⊥)
+  pub one-exactly : (s : Bytes) (c : Call) → (answer_on read s c ≡ 1) ↔ (SoundFor read s c → ⊥)
   one-exactly s c = (
     (λ one. λ sound. others-not-one s c (rw (answer-is s c, (unsound-exactly s c).0 sound) at one)),
-    (λ no-sound. by_test (unsoundOn read s c) (λ h. rw (answer-is s c, h) refl) (λ h. absurd (no-sound ((unsound-exactly s c).1 h)))),
+    (λ no-sound. by_test (unsound_on read s c) (λ h. rw (answer-is s c, h) refl) (λ h. absurd (no-sound ((unsound-exactly s c).1 h)))),
   )

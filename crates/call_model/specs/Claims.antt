@@ -7,7 +7,7 @@ use Rattle.table_model.specs.Facts.{SoundTable}
 use Rattle.call_history.specs.Model.{Reading, Call, Table, answer, next}
 use Rattle.call_history.specs.Keccak.{with_keccak}
 use Rattle.call_history.specs.Chain.{IsCall}
-use Rattle.call_model.specs.Calls.{envOf, answerOn, bytesAfter}
+use Rattle.call_model.specs.Calls.{env_of, answer_on, bytes_after}
 use Rattle.call_model.specs.OverBytes.{encode}
 
 -- what a table's bytes hold
@@ -19,11 +19,11 @@ table_in s = record { clock = clock_of s; buckets = buckets_of s }
 abbrev pub StepOnForm : Type 0
 StepOnForm =
     (read : Bytes → ℕ → Reading) (own : Bytes) (t : Table) → IsBytes own → SoundTable own t.clock t.buckets → (c : Call) → IsCall c
-    → (answerOn read (encode own t) c ≡ answer (with_keccak read own (length t.buckets)) t c)
-    × (bytesAfter read (encode own t) c ≡ encode own (next (with_keccak read own (length t.buckets)) t c))
+    → (answer_on read (encode own t) c ≡ answer (with_keccak read own (length t.buckets)) t c)
+    × (bytes_after read (encode own t) c ≡ encode own (next (with_keccak read own (length t.buckets)) t c))
 
 -- and so on all sound bytes, by what they hold
 abbrev pub StepOnBytes : Type 0
 StepOnBytes =
     (read : Bytes → ℕ → Reading) (s : Bytes) → IsBytes s → table_sound s ≡ true → (c : Call) → IsCall c
-    → (answerOn read s c ≡ answer (envOf read s) (table_in s) c) × (bytesAfter read s c ≡ encode (own_of s) (next (envOf read s) (table_in s) c))
+    → (answer_on read s c ≡ answer (env_of read s) (table_in s) c) × (bytes_after read s c ≡ encode (own_of s) (next (env_of read s) (table_in s) c))

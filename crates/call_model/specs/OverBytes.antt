@@ -7,7 +7,7 @@ use Rattle.table_model.specs.Layout.{encode_table}
 use Rattle.call_history.specs.Model.{Reading, Call, Table}
 use Rattle.call_history.specs.Keccak.{with_keccak}
 use Rattle.call_history.specs.Chain.{IsCall, Demand3OnBytes}
-use Rattle.call_model.specs.Calls.{answerOn, bytesAfter}
+use Rattle.call_model.specs.Calls.{answer_on, bytes_after}
 
 -- the one byte form of a table of the node with this hash; a fresh one's is `encode_table own 0 (replicate count no_contents)`
 abbrev pub encode : Bytes → Table → Bytes
@@ -20,4 +20,4 @@ encode own t = encode_table own t.clock t.buckets
 abbrev pub Demand3OverBytes : (Bytes → ℕ → Reading) → Type 0
 Demand3OverBytes read =
     (key : Bytes) (count : ℕ) → 1 ≤ count → count ≤ 256 → (calls : List Call) → All IsCall calls
-    → Demand3OnBytes (answerOn read) (bytesAfter read) (with_keccak read (keccak256 key) count) (encode (keccak256 key)) calls
+    → Demand3OnBytes (answer_on read) (bytes_after read) (with_keccak read (keccak256 key) count) (encode (keccak256 key)) calls

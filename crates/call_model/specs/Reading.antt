@@ -8,11 +8,11 @@ use Rattle.packet.specs.declared.Parsed.{Parsed}
 use Rattle.packet.specs.declared.Parsed.TheVariants as parsed
 use Rattle.packet_envelope.specs.Envelope.{is_sized, hash_matches}
 use Rattle.packet_datagram.specs.Datagram.{read_at}
-use Rattle.call_history.specs.Model.{Fault, wrongLength, wrongHash, unknownType, badList, badField, expired, Reading, refused, ping, pong, other}
+use Rattle.call_history.specs.Model.{Fault, wrong_length, wrong_hash, unknown_type, bad_list, bad_field, expired, Reading, refused, ping, pong, other}
 
 -- the fault behind an answer number from 8 to 11
 abbrev pub fault_of : ℕ → Fault
-fault_of n = cond (eqb n 8) unknownType (cond (eqb n 9) badList (cond (eqb n 10) badField expired))
+fault_of n = cond (eqb n 8) unknown_type (cond (eqb n 9) bad_list (cond (eqb n 10) bad_field expired))
 
 -- a packet of the datagram g
 abbrev pub packet_reading : Bytes → Packet → Reading
@@ -32,5 +32,5 @@ parsed_reading g (parsed.Refused n) = refused (fault_of n)
 unfoldable pub reading : Bytes → ℕ → Reading
 reading g unix =
     cond (is_sized g)
-    (cond (hash_matches g) (parsed_reading g (read_at g (record { 0 = unix }))) (refused wrongHash))
-    (refused wrongLength)
+    (cond (hash_matches g) (parsed_reading g (read_at g (record { 0 = unix }))) (refused wrong_hash))
+    (refused wrong_length)

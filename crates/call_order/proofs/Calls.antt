@@ -11,9 +11,9 @@ use Rattle.lists.specs.Lists.{modify}
 use Rattle.lists.proofs.Laws.{by_test, never}
 use Rattle.bucket_model.specs.Contents.{Contents}
 use Rattle.bucket_model.specs.Rules.{on_ping_sent}
-use Rattle.call_history.specs.Model.{Env, Call, datagram, ping_sent, sweep, closest, unclocked, Table, isKept, slot, bucketOf, datagramRefusals, pingSentRefusals, on_datagram, answer, effect, next}
+use Rattle.call_history.specs.Model.{Env, Call, datagram, ping_sent, sweep, closest, unclocked, Table, is_kept, slot, bucket_of, datagram_refusals, ping_sent_refusals, on_datagram, answer, effect, next}
 use Rattle.call_history.proofs.Sound.{TableSound}
-use Rattle.call_history.proofs.Step.{byAnswer, datagram-keyed, ping-allowed, other-bucket}
+use Rattle.call_history.proofs.Step.{by_answer, datagram-keyed, ping-allowed, other-bucket}
 use Rattle.call_order.specs.Order.{Apart, InStretch, EitherWay}
 use Rattle.call_order.proofs.Lists.{slot_of, other-slot}
 
@@ -45,10 +45,10 @@ module _ (e : Env) where
   -- what a call at t with this key reads of a table
   pub record Unseen (s s' : Table) (t : ℕ) (key : Bytes) : Type 0 where
     pub early : ltb t s'.clock ≡ ltb t s.clock
-    pub bucket : bucketOf e s' key ≡ bucketOf e s key
+    pub bucket : bucket_of e s' key ≡ bucket_of e s key
 
   module _ (s : Table) (ok : TableSound e s) (t : ℕ) where
-    unseen-key : (now : ℕ) (key d : Bytes) → now ≡ t → (slot e key ≡ slot e d → ⊥) → s.clock ≤ now → (f : Contents → Contents) → isKept e d ≡ true
+    unseen-key : (now : ℕ) (key d : Bytes) → now ≡ t → (slot e key ≡ slot e d → ⊥) → s.clock ≤ now → (f : Contents → Contents) → is_kept e d ≡ true
         → Unseen s (record { clock = now; buckets = modify (slot e d) f s.buckets }) t key
     unseen-key now key d at apart in_time f is_kept =
         record {
@@ -59,12 +59,12 @@ module _ (e : Env) where
     -- a call of another bucket at t leaves all that the call reads
     pub unseen : (key : Bytes) (d : Call) → InStretch e t d → (slot e key ≡ slot_of e d → ⊥) → Unseen s (next e s d) t key
     unseen key (datagram now unix address udp k bytes) in-d apart =
-        byAnswer e (λ s'. Unseen s s' t key) s (datagram now unix address udp k bytes)
+        by_answer e (λ s'. Unseen s s' t key) s (datagram now unix address udp k bytes)
         (λ a. let keyed = datagram-keyed e s now unix address udp k bytes a in
         unseen-key now key k in-d.0 apart keyed.in_time (on_datagram now address udp k (e.read bytes unix)) keyed.is_kept)
         (λ _. record { early = refl; bucket = refl })
     unseen key (ping_sent now k address udp tcp hash) in-d apart =
-        byAnswer e (λ s'. Unseen s s' t key) s (ping_sent now k address udp tcp hash)
+        by_answer e (λ s'. Unseen s s' t key) s (ping_sent now k address udp tcp hash)
         (λ a. let keyed = (ping-allowed e s now k address udp tcp hash a).keyed in
         unseen-key now key k in-d.0 apart keyed.in_time (on_ping_sent now k address udp tcp hash) keyed.is_kept)
         (λ _. record { early = refl; bucket = refl })
@@ -74,7 +74,7 @@ module _ (e : Env) where
 
     -- so its answer number is the same
     same_number : (c d : Call) → InStretch e t c → InStretch e t d → (slot_of e c ≡ slot_of e d → ⊥) → answer e (next e s d) c ≡ answer e s c
-    unfolding datagramRefusals pingSentRefusals
+    unfolding datagram_refusals ping_sent_refusals
     same_number (datagram now unix address udp key bytes) d in_c in-d apart =
         let u = unseen key d in-d apart in
         let early : ltb now (next e s d).clock ≡ ltb now s.clock = rw in_c.0 u.early in

@@ -8,7 +8,7 @@ use lib.Dec.{eqb}
 use Rattle.lists.specs.Lists.{select, All}
 use Rattle.lists.proofs.Laws.{by_test, never, and_right, select-append, All-append, All-left, All-right, All-and}
 use Rattle.call_history.specs.Model.{Env, Call, slot}
-use Rattle.call_order.specs.Order.{key_of, hasBucket, isOfBucket, Apart, InStretch, Merges, done, same, stretch, after, EitherWay, EndAlike}
+use Rattle.call_order.specs.Order.{key_of, has_bucket, is_of_bucket, Apart, InStretch, Merges, done, same, stretch, after, EitherWay, EndAlike}
 
 -- ---- the bucket of a call
 
@@ -16,13 +16,13 @@ module _ (e : Env) where
   abbrev pub slot_of : Call → ℕ
   slot_of c = slot e (key_of c)
 
-  slot_is : (i : ℕ) (c : Call) → isOfBucket e i c ≡ true → slot_of c ≡ i
-  slot_is i c h = eqb-true (slot_of c) i (and_right (hasBucket e c) (eqb (slot_of c) i) h)
+  slot_is : (i : ℕ) (c : Call) → is_of_bucket e i c ≡ true → slot_of c ≡ i
+  slot_is i c h = eqb-true (slot_of c) i (and_right (has_bucket e c) (eqb (slot_of c) i) h)
 
-  at_slot : (i : ℕ) (c : Call) → hasBucket e c ≡ true → slot_of c ≡ i → isOfBucket e i c ≡ true
+  at_slot : (i : ℕ) (c : Call) → has_bucket e c ≡ true → slot_of c ≡ i → is_of_bucket e i c ≡ true
   at_slot i c h g = rw h (eq-eqb (slot_of c) i g)
 
-  pub other-slot : (c d : Call) → hasBucket e c ≡ true → hasBucket e d ≡ true → Apart e c d → slot_of c ≡ slot_of d → ⊥
+  pub other-slot : (c d : Call) → has_bucket e c ≡ true → has_bucket e d ≡ true → Apart e c d → slot_of c ≡ slot_of d → ⊥
   other-slot c d has-c has-d apart h = apart (slot_of c) (at_slot (slot_of c) c has-c refl) (at_slot (slot_of c) d has-d (sym h))
 
 -- ---- the first element of a list that passes a test
@@ -63,15 +63,15 @@ module _ {S A : Type 0} (told : S → Call → A) (left : S → Call → S) (e :
   alike-cons s c cs ds h = record { state = h.state; answers = λ i. rw (h.answers i) refl; others = rw h.others refl }
 
   -- two calls of different buckets, and then the same calls
-  swap_alike : (s : S) (c d : Call) (rest : List Call) → EitherWay told left s c d → hasBucket e c ≡ true → hasBucket e d ≡ true → Apart e c d
+  swap_alike : (s : S) (c d : Call) (rest : List Call) → EitherWay told left s c d → has_bucket e c ≡ true → has_bucket e d ≡ true → Apart e c d
       → Alike s (c ∷ d ∷ rest) (d ∷ c ∷ rest)
   swap_alike s c d rest h has-c has-d apart =
       record {
         state = ap (λ t. after told left t rest) h.state;
         answers = λ i.
             rw (h.state, h.first, h.second)
-            (by_test (isOfBucket e i c)
-            (λ f. by_test (isOfBucket e i d) (λ g. absurd (apart i f g)) (λ g. rw (f, g) refl))
+            (by_test (is_of_bucket e i c)
+            (λ f. by_test (is_of_bucket e i d) (λ g. absurd (apart i f g)) (λ g. rw (f, g) refl))
             (λ f. rw f refl));
         others = rw h.state (rw (has-c, has-d) refl);
       }
@@ -91,10 +91,10 @@ module _ {S A : Type 0} (told : S → Call → A) (left : S → Call → S) (e :
 
     -- a call moves to the front past calls of other buckets
     moved : (t : ℕ) (x : Call) (pre rest : List Call) (s : S) → Ok s → In t x → All (In t) pre
-        → select (isOfBucket e (slot_of e x)) pre ≡ [] → Alike s (pre ++ (x ∷ rest)) (x ∷ (pre ++ rest))
+        → select (is_of_bucket e (slot_of e x)) pre ≡ [] → Alike s (pre ++ (x ∷ rest)) (x ∷ (pre ++ rest))
     moved t x [] rest s ok in_x in_pre = λ none. alike_refl s (x ∷ rest)
     moved t x (p ∷ pre) rest s ok in_x in_pre =
-        by_test (isOfBucket e (slot_of e x) p)
+        by_test (is_of_bucket e (slot_of e x) p)
         (λ g. rw g (λ none. never (let y : true ≡ false = cc in y)))
         (λ g. rw g (λ none.
         let in_p = in_pre.0 in
@@ -105,24 +105,24 @@ module _ {S A : Type 0} (told : S → Call → A) (left : S → Call → S) (e :
 
     -- two merges of one stretch
     merged : (t : ℕ) (xs ys rest : List Call) (s : S) → Ok s → All (In t) xs → All (In t) ys
-        → ((i : ℕ) → select (isOfBucket e i) xs ≡ select (isOfBucket e i) ys) → Alike s (xs ++ rest) (ys ++ rest)
+        → ((i : ℕ) → select (is_of_bucket e i) xs ≡ select (is_of_bucket e i) ys) → Alike s (xs ++ rest) (ys ++ rest)
     merged t [] [] rest s ok in-xs in_ys own = alike_refl s rest
     merged t [] (y ∷ ys) rest s ok in-xs in_ys own =
-        let h : [] ≡ y ∷ select (isOfBucket e (slot_of e y)) ys = rw (at_slot e (slot_of e y) y in_ys.0.1.1 refl) at (own (slot_of e y)) in
+        let h : [] ≡ y ∷ select (is_of_bucket e (slot_of e y)) ys = rw (at_slot e (slot_of e y) y in_ys.0.1.1 refl) at (own (slot_of e y)) in
         never (let z : true ≡ false = cc in z)
     merged t (x ∷ xs) ys rest s ok in-xs in_ys own =
         let i = slot_of e x in
         let in_x = in-xs.0 in
-        let is : isOfBucket e i x ≡ true = at_slot e i x in_x.1.1 refl in
-        let found : select (isOfBucket e i) ys ≡ x ∷ select (isOfBucket e i) xs = sym (own i) ∙ rw is refl in
-        let f = first-at (isOfBucket e i) x (select (isOfBucket e i) xs) ys found in
+        let is : is_of_bucket e i x ≡ true = at_slot e i x in_x.1.1 refl in
+        let found : select (is_of_bucket e i) ys ≡ x ∷ select (is_of_bucket e i) xs = sym (own i) ∙ rw is refl in
+        let f = first-at (is_of_bucket e i) x (select (is_of_bucket e i) xs) ys found in
         let parts : All (In t) (f.pre ++ (x ∷ f.post)) = rw f.is at in_ys in
         let in_pre = All-left (In t) f.pre (x ∷ f.post) parts in
         let in_post = (All-right (In t) f.pre (x ∷ f.post) parts).1 in
-        let own' : (j : ℕ) → select (isOfBucket e j) xs ≡ select (isOfBucket e j) (f.pre ++ f.post) =
+        let own' : (j : ℕ) → select (is_of_bucket e j) xs ≡ select (is_of_bucket e j) (f.pre ++ f.post) =
         λ j.
-        let eq : select (isOfBucket e j) (x ∷ xs) ≡ select (isOfBucket e j) (f.pre ++ (x ∷ f.post)) = rw f.is at (own j) in
-        by_test (isOfBucket e j x)
+        let eq : select (is_of_bucket e j) (x ∷ xs) ≡ select (is_of_bucket e j) (f.pre ++ (x ∷ f.post)) = rw f.is at (own j) in
+        by_test (is_of_bucket e j x)
         (λ g. rw (← slot_is e j x g, select-append) (rw (f.none, f.rest) refl))
         (λ g. let eq' = rw (g, select-append, g) at eq in rw select-append eq') in
         let more = merged t xs (f.pre ++ f.post) rest (left s x) (law.kept s x in_x.0 ok) in-xs.1 (All-append (In t) f.pre f.post in_pre in_post) own' in

@@ -1,1 +1,2 @@
 // No code: specs/ has which calls may change places, and proofs/ that they come out alike.
+#![tactic(auto)]

@@ -3,7 +3,7 @@ use Rattle.std.specs.Prelude.{ℕ, Bool, List, ◌≡◌}
 use Rattle.octets.specs.Octets.{Bytes}
 use Rattle.lists.specs.Lists.{first}
 use Rattle.packet.specs.declared.Packet.{Packet}
-use Rattle.call_history.specs.Model.{Env, packetRefusals, on_datagram}
+use Rattle.call_history.specs.Model.{Env, packet_refusals, on_datagram}
 use Rattle.call_model.specs.Reading.{packet_reading}
 use Rattle.bucket_model.specs.Contents.{Contents}
 use Rattle.bucket.specs.Steps.{Shows}
@@ -20,5 +20,5 @@ pub record Replies (tests : List (Bool × ℕ)) (m : Contents) (r : Received) (r
 -- the reply to the packet p of the datagram g, whose sender's bucket has the contents m
 abbrev pub RepliesTo : Env → ℕ → Bytes → ℕ → Bytes → Bytes → Packet → Contents → Reply → Type 0
 RepliesTo e now address udp key g p m =
-    Replies (packetRefusals e now address udp key (packet_reading g p) m) (on_datagram now address udp key (packet_reading g p) m)
+    Replies (packet_refusals e now address udp key (packet_reading g p) m) (on_datagram now address udp key (packet_reading g p) m)
     (accepted now address udp key p m)

@@ -1,4 +1,6 @@
 // A packet that reaches its sender's bucket, by value: 13 to 15, or the answer and the bucket after it.
+#![tactic(auto)]
+
 ghost use Rattle.std.specs.Prelude.{◌≡◌, [], ◌∷◌};
 ghost use Rattle.lists.specs.Lists.{first};
 ghost use Rattle.call_packet.specs.Steps.{Replies, RepliesTo};
@@ -18,7 +20,7 @@ use node::MonotonicMillis;
 use packet::{Packet, Ping, Pong};
 
 // What a packet comes to at its sender's bucket.
-#[derive(Drop)]
+#[derive(Clone, Copy)]
 pub struct Reply {
     // From 13 to 15, or 0.
     pub number: u8,

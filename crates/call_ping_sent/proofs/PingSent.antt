@@ -14,8 +14,8 @@ use Rattle.lists.proofs.Laws.{by_test, passed}
 use Rattle.lists.proofs.Laws as lists
 use Rattle.lists.proofs.First.{first-append}
 use Rattle.table_model.specs.Layout.{clock_of}
-use Rattle.call_history.specs.Model.{Call, ping_sent, isOwn, isKept, slot, pingSentRefusals, held_refusals}
-use Rattle.call_model.specs.Calls.{envOf, bucketFor, unsoundFor, answerOn, bytesAfter}
+use Rattle.call_history.specs.Model.{Call, ping_sent, is_own, is_kept, slot, ping_sent_refusals, held_refusals}
+use Rattle.call_model.specs.Calls.{env_of, bucket_for, unsound_for, answer_on, bytes_after}
 use Rattle.call_model.specs.Reading.{reading}
 use Rattle.table.specs.Steps.{touched_by}
 use Rattle.call_touched.specs.declared.Reach.{Reach}
@@ -47,22 +47,22 @@ short address h =
     (λ t. omega (arith, eqb-true (length address) 16 (rw t at h)))
 
 module _ (s : Bytes) (now : ℕ) (key address hash : Bytes) where
-  place-unsound : unsoundFor reading s key ≡ true → NotPlaced 1 ≡ placed s now key address hash
+  place-unsound : unsound_for reading s key ≡ true → NotPlaced 1 ≡ placed s now key address hash
   unfolding placed
   place-unsound u = sym (rw u refl)
 
-  place-sound : unsoundFor reading s key ≡ false → placed_at (clock_of s) now hash (touched_by s key) address ≡ placed s now key address hash
+  place-sound : unsound_for reading s key ≡ false → placed_at (clock_of s) now hash (touched_by s key) address ≡ placed s now key address hash
   unfolding placed
   place-sound u =
       sym
       (rw (u, is-touched s key)
-      (same_placed (ltb now (clock_of s)) (eqb (length hash) 32) (eqb (length key) 64) (isOwn (envOf reading s) key) (isKept (envOf reading s) key)
-      (is_address address) (slot (envOf reading s) key)))
+      (same_placed (ltb now (clock_of s)) (eqb (length hash) 32) (eqb (length key) 64) (is_own (env_of reading s) key) (is_kept (env_of reading s) key)
+      (is_address address) (slot (env_of reading s) key)))
 
   -- by where the key leads
   place-reached : placed_on (clock_of s) now hash (reached s key) address ≡ placed s now key address hash
   unfolding reached
-  place-reached = by_test (unsoundFor reading s key) (λ u. rw u (place-unsound u)) (λ u. rw u (place-sound u))
+  place-reached = by_test (unsound_for reading s key) (λ u. rw u (place-unsound u)) (λ u. rw u (place-sound u))
 
   pub placed-at : {reach : Reach} {p : Placed} → reach ≡ reached s key → p ≡ placed_on (clock_of s) now hash reach address → p ≡ placed s now key address hash
   placed-at e h = h ∙ ap (λ (x : Reach). placed_on (clock_of s) now hash x address) e ∙ place-reached
@@ -75,28 +75,28 @@ module _ (s : Bytes) (now : ℕ) (key address hash : Bytes) where
     front = ping_sent_front s now key address hash
 
     abbrev rest : List (Bool × ℕ)
-    rest = held_refusals address udp key (bucketFor reading s key)
+    rest = held_refusals address udp key (bucket_for reading s key)
 
-    answer-is : answerOn reading s call ≡ cond (eqb (first front) 0) (first rest) (first front)
-    unfolding answerOn pingSentRefusals
+    answer-is : answer_on reading s call ≡ cond (eqb (first front) 0) (first rest) (first front)
+    unfolding answer_on ping_sent_refusals
     answer-is = first-append front rest refl
 
     -- ---- refused before
 
-    pub refused-before : {n : ℕ} → placed s now key address hash ≡ NotPlaced n → (n ≡ answerOn reading s call) × (s ≡ bytesAfter reading s call)
-    unfolding placed bytesAfter
+    pub refused-before : {n : ℕ} → placed s now key address hash ≡ NotPlaced n → (n ≡ answer_on reading s call) × (s ≡ bytes_after reading s call)
+    unfolding placed bytes_after
     refused-before {n} e =
-        let no = nowhere (first front) (slot (envOf reading s) key) n e in
-        let answer : answerOn reading s call ≡ n = answer-is ∙ rw no.0 no.1 in
-        let some : eqb (answerOn reading s call) 0 ≡ false = rw (answer, sym no.1) no.0 in
+        let no = nowhere (first front) (slot (env_of reading s) key) n e in
+        let answer : answer_on reading s call ≡ n = answer-is ∙ rw no.0 no.1 in
+        let some : eqb (answer_on reading s call) 0 ≡ false = rw (answer, sym no.1) no.0 in
         (sym answer, sym (rw some refl))
 
     -- ---- passed
 
     module _ {i : ℕ} (e : placed s now key address hash ≡ In i) where
-      here : (first front ≡ 0) × (slot (envOf reading s) key ≡ i)
+      here : (first front ≡ 0) × (slot (env_of reading s) key ≡ i)
       unfolding placed
-      here = somewhere (first front) (slot (envOf reading s) key) i e
+      here = somewhere (first front) (slot (env_of reading s) key) i e
 
       facts : lists.Passed front
       facts = passed front refl here.0
@@ -109,19 +109,19 @@ module _ (s : Bytes) (now : ℕ) (key address hash : Bytes) where
             (eqb-true _ _ whole, (short address (not-false _ keyed.1.0), eqb-true _ _ (not-false _ facts.1.1.0))),
           )
 
-      number : answerOn reading s call ≡ first rest
+      number : answer_on reading s call ≡ first rest
       number = answer-is ∙ rw (eq-eqb (first front) 0 here.0) refl
 
-      answered : note_number s (slot (envOf reading s) key) address udp key ≡ answerOn reading s call
+      answered : note_number s (slot (env_of reading s) key) address udp key ≡ answer_on reading s call
       unfolding note_number
       answered = sym number
 
-      left : after_note s (slot (envOf reading s) key) now key address udp tcp hash ≡ bytesAfter reading s call
-      unfolding after_note note_number bytesAfter
+      left : after_note s (slot (env_of reading s) key) now key address udp tcp hash ≡ bytes_after reading s call
+      unfolding after_note note_number bytes_after
       left = sym (rw number refl)
 
       pub done : {n : ℕ} {t : Bytes} → n ≡ note_number s i address udp key → t ≡ after_note s i now key address udp tcp hash
-          → (n ≡ answerOn reading s call) × (t ≡ bytesAfter reading s call)
+          → (n ≡ answer_on reading s call) × (t ≡ bytes_after reading s call)
       done en et = (
         en ∙ ap (λ (x : ℕ). note_number s x address udp key) (sym here.1) ∙ answered,
         et ∙ ap (λ (x : ℕ). after_note s x now key address udp tcp hash) (sym here.1) ∙ left,

@@ -6,7 +6,7 @@ use Rattle.bucket_model.specs.Rules.{on_ping_sent}
 use Rattle.table_model.specs.Layout.{clock_of, bucket_at}
 use Rattle.call_history.specs.Model.{slot, held_refusals}
 use Rattle.call_history.specs.Model as model
-use Rattle.call_model.specs.Calls.{envOf, unsoundFor}
+use Rattle.call_model.specs.Calls.{env_of, unsound_for}
 use Rattle.call_model.specs.Reading.{reading}
 use Rattle.table.specs.declared.Touched.{Touched}
 use Rattle.call_touched.specs.Steps.{key_tests, kept_place, with_bucket}
@@ -21,7 +21,7 @@ ping_sent_tests clock now hash t address = (ltb now clock, 2) ∷ (not (eqb (len
 
 -- 1 to 12, in document 01's order: the first lines of its table of answer numbers
 abbrev pub ping_sent_front : Bytes → ℕ → Bytes → Bytes → Bytes → List (Bool × ℕ)
-ping_sent_front s now key address hash = (unsoundFor reading s key, 1) ∷ model.ping_sent_front (envOf reading s) (clock_of s) now key address hash
+ping_sent_front s now key address hash = (unsound_for reading s key, 1) ∷ model.ping_sent_front (env_of reading s) (clock_of s) now key address hash
 
 abbrev pub placed_by : ℕ → Placed → Placed
 placed_by n p = cond (eqb n 0) p (NotPlaced n)
@@ -35,7 +35,7 @@ placed_on clock now hash Unsound address = NotPlaced 1
 placed_on clock now hash (At t) address = placed_at clock now hash t address
 
 unfoldable pub placed : Bytes → ℕ → Bytes → Bytes → Bytes → Placed
-placed s now key address hash = placed_by (first (ping_sent_front s now key address hash)) (In (slot (envOf reading s) key))
+placed s now key address hash = placed_by (first (ping_sent_front s now key address hash)) (In (slot (env_of reading s) key))
 
 -- ---- a ping that was sent is noted in the bucket in a slot
 

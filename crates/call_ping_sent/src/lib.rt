@@ -1,4 +1,6 @@
 // The ping-sent call on a table in lent bytes, for any bytes.
+#![tactic(auto)]
+
 ghost use Rattle.std.specs.Prelude.{◌≡◌, true, ◌≤◌, length};
 ghost use Rattle.octets.specs.Octets.{Bytes};
 ghost use Rattle.lists.specs.Lists.{first};
@@ -6,7 +8,7 @@ ghost use Rattle.table_model.specs.Layout.{clock_of};
 ghost use Rattle.bucket.specs.Steps.{contents, InBounds};
 ghost use Rattle.bucket_lookup.specs.Steps.{LooksUp};
 ghost use Rattle.call_history.specs.Model as model;
-ghost use Rattle.call_model.specs.Calls.{answerOn, bytesAfter};
+ghost use Rattle.call_model.specs.Calls.{answer_on, bytes_after};
 ghost use Rattle.call_model.specs.IfAny.{sound_if_any};
 ghost use Rattle.call_model.specs.Reading.{reading};
 ghost use Rattle.call_touched.specs.Steps.{reached, HasHeader, SoundAt};
@@ -125,8 +127,8 @@ fn ping_sent_at(
     hash: &[u8],
 ) -> u8
     requires { reach ≡ reached table.old key.now }
-    ensures value { result ≡ answerOn reading table.old (model.ping_sent clock.0 key.now address.now udp tcp hash.now) }
-    ensures table_after { table.new ≡ bytesAfter reading table.old (model.ping_sent clock.0 key.now address.now udp tcp hash.now) }
+    ensures value { result ≡ answer_on reading table.old (model.ping_sent clock.0 key.now address.now udp tcp hash.now) }
+    ensures table_after { table.new ≡ bytes_after reading table.old (model.ping_sent clock.0 key.now address.now udp tcp hash.now) }
 {
     match place(table, reach, clock, address, hash) {
         Placed::NotPlaced(n) => n,
@@ -144,8 +146,8 @@ pub fn ping_sent_on(
     tcp: u16,
     hash: &[u8],
 ) -> u8
-    ensures value { result ≡ answerOn reading table.old (model.ping_sent clock.0 key.now address.now udp tcp hash.now) }
-    ensures table_after { table.new ≡ bytesAfter reading table.old (model.ping_sent clock.0 key.now address.now udp tcp hash.now) }
+    ensures value { result ≡ answer_on reading table.old (model.ping_sent clock.0 key.now address.now udp tcp hash.now) }
+    ensures table_after { table.new ≡ bytes_after reading table.old (model.ping_sent clock.0 key.now address.now udp tcp hash.now) }
 {
     let reach = call_touched::reached_by(table, key);
     ping_sent_at(table, reach, clock, key, address, udp, tcp, hash)
@@ -162,8 +164,8 @@ pub fn ping_sent_on_sound(
     hash: &[u8],
 ) -> u8
     requires { sound_if_any table.old ≡ true }
-    ensures value { result ≡ answerOn reading table.old (model.ping_sent clock.0 key.now address.now udp tcp hash.now) }
-    ensures table_after { table.new ≡ bytesAfter reading table.old (model.ping_sent clock.0 key.now address.now udp tcp hash.now) }
+    ensures value { result ≡ answer_on reading table.old (model.ping_sent clock.0 key.now address.now udp tcp hash.now) }
+    ensures table_after { table.new ≡ bytes_after reading table.old (model.ping_sent clock.0 key.now address.now udp tcp hash.now) }
 {
     let reach = call_touched::reached_in(table, key);
     ping_sent_at(table, reach, clock, key, address, udp, tcp, hash)

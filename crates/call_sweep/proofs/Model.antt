@@ -18,7 +18,7 @@ use Rattle.table_model.proofs.Table.{store-clock-table}
 use Rattle.table_model.proofs.Sound.{SoundTable, table_header, form_is_sound, own_back, clock-back, buckets-back}
 use Rattle.call_history.specs.Model.{sweep}
 use Rattle.call_model.specs.Reading.{reading}
-use Rattle.call_model.specs.Calls.{answerOn, bytesAfter}
+use Rattle.call_model.specs.Calls.{answer_on, bytes_after}
 use Rattle.call_sweep.specs.Steps.{sweep_answer, sweep_table}
 
 -- ---- the answer, and what it leaves
@@ -39,8 +39,8 @@ module _ (s : Bytes) (now : ℕ) where
 
 -- they are those of the rules for any bytes
 pub by_rules : (s : Bytes) (now : ℕ) {n : ℕ} {t : Bytes} → (n ≡ sweep_answer s now) × (t ≡ sweep_table s now)
-    → (n ≡ answerOn reading s (sweep now)) × (t ≡ bytesAfter reading s (sweep now))
-unfolding sweep_answer sweep_table answerOn bytesAfter
+    → (n ≡ answer_on reading s (sweep now)) × (t ≡ bytes_after reading s (sweep now))
+unfolding sweep_answer sweep_table answer_on bytes_after
 by_rules s now h = h
 
 -- the two stores of an accepted sweep

@@ -1,7 +1,9 @@
 // The sweep call on a table in lent bytes, for any bytes.
+#![tactic(auto)]
+
 ghost use Rattle.std.specs.Prelude.{◌≡◌, true, map, ◌+◌, ◌*◌, ◌≤◌, length, get_or};
 ghost use Rattle.call_history.specs.Model as model;
-ghost use Rattle.call_model.specs.Calls.{answerOn, bytesAfter};
+ghost use Rattle.call_model.specs.Calls.{answer_on, bytes_after};
 ghost use Rattle.call_model.specs.IfAny.{sound_if_any};
 ghost use Rattle.call_model.specs.Reading.{reading};
 ghost use Rattle.octets.specs.Octets.{part, store};
@@ -22,8 +24,8 @@ use node::MonotonicMillis;
 // Nodes that did not answer in time go, then replacements with an expired proof, and proved replacements take free entries. The answer
 // number.
 pub fn sweep_on(table: &mut [u8], clock: MonotonicMillis) -> u8
-    ensures value { result ≡ answerOn reading table.old (model.sweep clock.0) }
-    ensures table_after { table.new ≡ bytesAfter reading table.old (model.sweep clock.0) }
+    ensures value { result ≡ answer_on reading table.old (model.sweep clock.0) }
+    ensures table_after { table.new ≡ bytes_after reading table.old (model.sweep clock.0) }
 {
     sweep(table, clock)
 }
@@ -31,8 +33,8 @@ pub fn sweep_on(table: &mut [u8], clock: MonotonicMillis) -> u8
 // The same on no bytes or on a sound table, where nothing is left to test.
 pub fn sweep_on_sound(table: &mut [u8], clock: MonotonicMillis) -> u8
     requires { sound_if_any table.old ≡ true }
-    ensures value { result ≡ answerOn reading table.old (model.sweep clock.0) }
-    ensures table_after { table.new ≡ bytesAfter reading table.old (model.sweep clock.0) }
+    ensures value { result ≡ answer_on reading table.old (model.sweep clock.0) }
+    ensures table_after { table.new ≡ bytes_after reading table.old (model.sweep clock.0) }
 {
     sweep_sound(table, clock)
 }

@@ -12,8 +12,8 @@ use Rattle.table_model.specs.Layout.{count_of, header_sound}
 use Rattle.table_model.specs.Sound.{bucket_sound, buckets_sound, table_sound}
 use Rattle.table_model.proofs.Header.{header-sound}
 use Rattle.table_model.proofs.Sound.{all-below}
-use Rattle.call_history.specs.Model.{bucketNumber, isOwn, isKept, slot}
-use Rattle.call_model.specs.Calls.{envOf, unsoundFor}
+use Rattle.call_history.specs.Model.{bucket_number, is_own, is_kept, slot}
+use Rattle.call_model.specs.Calls.{env_of, unsound_for}
 use Rattle.call_model.specs.Reading.{reading}
 use Rattle.call_model.proofs.Form.{slot_below}
 use Rattle.call_model.proofs.IfAny.{sound-head}
@@ -50,8 +50,8 @@ sound_touched s h NotKept below = refl
 sound_touched s h (Slot i) below = all-below (count_of s) (bucket_sound s) (and_right (header_sound s) (buckets_sound s) h) i below
 
 module _ (s key : Bytes) where
-  pub is-touched : touched_by s key ≡ leads (eqb (length key) 64) (isOwn (envOf reading s) key) (isKept (envOf reading s) key) (slot (envOf reading s) key)
-  unfolding touched_by bucketNumber
+  pub is-touched : touched_by s key ≡ leads (eqb (length key) 64) (is_own (env_of reading s) key) (is_kept (env_of reading s) key) (slot (env_of reading s) key)
+  unfolding touched_by bucket_number
   is-touched = refl
 
   pub no_header : header_sound s ≡ false → Unsound ≡ reached s key
@@ -62,12 +62,12 @@ module _ (s key : Bytes) where
     pub is_below : Below (count_of s) (touched_by s key)
     is_below =
         let header = header-sound s h in
-        rw is-touched (below (count_of s) (eqb (length key) 64) (isOwn (envOf reading s) key) (isKept (envOf reading s) key) (slot (envOf reading s) key)
-        (slot_below (envOf reading s) header.one header.most key))
+        rw is-touched (below (count_of s) (eqb (length key) 64) (is_own (env_of reading s) key) (is_kept (env_of reading s) key) (slot (env_of reading s) key)
+        (slot_below (env_of reading s) header.one header.most key))
 
-    unsound-is : unsoundFor reading s key ≡ not (touched_sound s (touched_by s key))
+    unsound-is : unsound_for reading s key ≡ not (touched_sound s (touched_by s key))
     unsound-is =
-        rw (is-touched, sound_test s (eqb (length key) 64) (isOwn (envOf reading s) key) (isKept (envOf reading s) key) (slot (envOf reading s) key), h) refl
+        rw (is-touched, sound_test s (eqb (length key) 64) (is_own (env_of reading s) key) (is_kept (env_of reading s) key) (slot (env_of reading s) key), h) refl
 
     pub reaches : touched_sound s (touched_by s key) ≡ true → At (touched_by s key) ≡ reached s key
     unfolding reached
@@ -83,38 +83,38 @@ module _ (s key : Bytes) where
   -- what was reached says whether 1 applies
   module _ {r : Reach} (e : r ≡ reached s key) where
     abbrev test : Bool
-    test = unsoundFor reading s key
+    test = unsound_for reading s key
 
-    pub unsound-reached : r ≡ Unsound → unsoundFor reading s key ≡ true
+    pub unsound-reached : r ≡ Unsound → unsound_for reading s key ≡ true
     unfolding reached
     unsound-reached u =
-        by_test (unsoundFor reading s key) (λ g. g)
+        by_test (unsound_for reading s key) (λ g. g)
         (λ g. let at : reached s key ≡ At (touched_by s key) = rw g refl in absurd (let z : ◌≡◌ {A = ℕ} 0 1 = cc in omega arith))
 
-    pub sound-reached : {t : Touched} → r ≡ At t → (unsoundFor reading s key ≡ false) × (t ≡ touched_by s key)
+    pub sound-reached : {t : Touched} → r ≡ At t → (unsound_for reading s key ≡ false) × (t ≡ touched_by s key)
     unfolding reached
     sound-reached {t} u =
-        by_test (unsoundFor reading s key)
+        by_test (unsound_for reading s key)
         (λ g. let none : reached s key ≡ Unsound = rw g refl in absurd (let z : ◌≡◌ {A = ℕ} 0 1 = cc in omega arith))
         (λ g. let at : reached s key ≡ At (touched_by s key) = rw g refl in
         let same : t ≡ touched_by s key = cc in
         (g, same))
 
-  pub header-there : unsoundFor reading s key ≡ false → header_sound s ≡ true
+  pub header-there : unsound_for reading s key ≡ false → header_sound s ≡ true
   header-there g = by_test (header_sound s) (λ t. t) (λ t. let no : true ≡ false = rw t at g in absurd (let z : ◌≡◌ {A = ℕ} 0 1 = cc in omega arith))
 
   pub reached-header : HasHeader s (reached s key)
   unfolding reached
   reached-header =
-      by_test (unsoundFor reading s key)
+      by_test (unsound_for reading s key)
       (λ g. rw g tt)
       (λ g. let h = header-sound s (header-there g) in rw g (omega (arith, h.size)))
 
   -- where 1 does not apply, a bucket that is touched is sound
-  pub sound-at : unsoundFor reading s key ≡ false → eqb (length key) 64 ≡ true → isOwn (envOf reading s) key ≡ false → isKept (envOf reading s) key ≡ true
-      → SoundAt s (slot (envOf reading s) key)
+  pub sound-at : unsound_for reading s key ≡ false → eqb (length key) 64 ≡ true → is_own (env_of reading s) key ≡ false → is_kept (env_of reading s) key ≡ true
+      → SoundAt s (slot (env_of reading s) key)
   sound-at g whole own kept =
       let h : header_sound s ≡ true = header-there g in
       let header = header-sound s h in
-      let no : not (bucket_sound s (slot (envOf reading s) key)) ≡ false = rw (h, whole, own, kept) at g in
-      record { header = h; kept = slot_below (envOf reading s) header.one header.most key; bucket = not-false _ no }
+      let no : not (bucket_sound s (slot (env_of reading s) key)) ≡ false = rw (h, whole, own, kept) at g in
+      record { header = h; kept = slot_below (env_of reading s) header.one header.most key; bucket = not-false _ no }

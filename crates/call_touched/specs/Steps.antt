@@ -5,7 +5,7 @@ use Rattle.octets.specs.Octets.{Bytes, store, big_endian}
 use Rattle.bucket_model.specs.Contents.{Contents, encode_bucket}
 use Rattle.table_model.specs.Layout.{count_of, offset_of, header_sound}
 use Rattle.table_model.specs.Sound.{bucket_sound}
-use Rattle.call_model.specs.Calls.{unsoundFor}
+use Rattle.call_model.specs.Calls.{unsound_for}
 use Rattle.call_model.specs.Reading.{reading}
 use Rattle.table.specs.declared.Touched.{Touched}
 use Rattle.table.specs.declared.Touched.TheVariants.{WrongKey, Own, NotKept, Slot}
@@ -31,7 +31,7 @@ Below count (Slot i) = i < count
 
 -- unless 1 applies, the bucket that a key touches
 unfoldable pub reached : Bytes → Bytes → Reach
-reached s key = cond (unsoundFor reading s key) Unsound (At (touched_by s key))
+reached s key = cond (unsound_for reading s key) Unsound (At (touched_by s key))
 
 -- a key leads to a bucket only past a header
 abbrev pub HasHeader : Bytes → Reach → Type 0

@@ -1,5 +1,7 @@
 // The bucket that a key touches, of a table in lent bytes: where a key leads, the answers to a key and an address, and the bucket taken out and
 // put back.
+#![tactic(auto)]
+
 ghost use Rattle.std.specs.Prelude.{◌≡◌, true, ◌+◌, ◌≤◌, length};
 ghost use Rattle.lists.specs.Lists.{first};
 ghost use Rattle.table_model.specs.Layout.{count_of, offset_of, bucket_at, header_sound};
@@ -13,7 +15,7 @@ use node::MonotonicMillis;
 use table::Touched;
 
 // Where a key leads.
-#[derive(Drop)]
+#[derive(Clone, Copy)]
 pub enum Reach {
     // Answer 1: the header, or the bucket that the key touches, is not sound.
     Unsound,
@@ -96,7 +98,7 @@ pub fn key_number(touched: Touched, address: &[u8]) -> u8
 }
 
 // What the tests before the bucket's own find of a call with a key.
-#[derive(Drop)]
+#[derive(Clone, Copy)]
 pub enum Placed {
     // The answer number, from 1 to 12.
     NotPlaced(u8),

@@ -1,9 +1,11 @@
 // The C boundary of the public library, for a host in C or another language: include/coghammer.h declares it. A slice is a pointer and a
 // length; an array behind a reference is a pointer. A code is an answer number in the low byte and a value above it.
+#![tactic(auto)]
+
 ghost use Rattle.std.specs.Prelude.{◌≡◌, true, length};
 ghost use Rattle.keccak.specs.Sponge as sponge;
 ghost use Rattle.call_history.specs.Model as model;
-ghost use Rattle.call_model.specs.Calls.{answerOn, bytesAfter};
+ghost use Rattle.call_model.specs.Calls.{answer_on, bytes_after};
 ghost use Rattle.call_model.specs.Reading.{reading};
 ghost use Rattle.call_datagram.specs.Received.{received};
 ghost use Rattle.packet_span.specs.Parts as span;
@@ -64,7 +66,7 @@ pub extern "C" fn coghammer_datagram(
     datagram: &[u8],
 ) -> u32
     ensures value { result ≡ received_code (received table.old clock unix address.now port signer.now datagram.now) }
-    ensures table_after { table.new ≡ bytesAfter reading table.old (model.datagram clock unix address.now port signer.now datagram.now) }
+    ensures table_after { table.new ≡ bytes_after reading table.old (model.datagram clock unix address.now port signer.now datagram.now) }
     ensures counters_after { counters.new ≡ raised counters.old (number_in result) }
 {
     let answer = capi_calls::datagram_on(table, clock, unix, address, port, signer, datagram);
@@ -84,8 +86,8 @@ pub extern "C" fn coghammer_ping_sent(
     tcp: u16,
     hash: &[u8],
 ) -> u8
-    ensures value { result ≡ answerOn reading table.old (model.ping_sent clock key.now address.now udp tcp hash.now) }
-    ensures table_after { table.new ≡ bytesAfter reading table.old (model.ping_sent clock key.now address.now udp tcp hash.now) }
+    ensures value { result ≡ answer_on reading table.old (model.ping_sent clock key.now address.now udp tcp hash.now) }
+    ensures table_after { table.new ≡ bytes_after reading table.old (model.ping_sent clock key.now address.now udp tcp hash.now) }
     ensures counters_after { counters.new ≡ raised counters.old result }
 {
     let answer = capi_calls::ping_sent_on(table, clock, key, address, udp, tcp, hash);
@@ -97,8 +99,8 @@ pub extern "C" fn coghammer_ping_sent(
 // number.
 #[unsafe(no_mangle)]
 pub extern "C" fn coghammer_sweep(counters: &mut Counters, table: &mut [u8], clock: u64) -> u8
-    ensures value { result ≡ answerOn reading table.old (model.sweep clock) }
-    ensures table_after { table.new ≡ bytesAfter reading table.old (model.sweep clock) }
+    ensures value { result ≡ answer_on reading table.old (model.sweep clock) }
+    ensures table_after { table.new ≡ bytes_after reading table.old (model.sweep clock) }
     ensures counters_after { counters.new ≡ raised counters.old result }
 {
     let answer = capi_calls::sweep_on(table, clock);

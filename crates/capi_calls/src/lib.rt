@@ -1,7 +1,9 @@
 // The calls on a lent table with clocks and readings as plain numbers, and the answer to a datagram as a code.
+#![tactic(auto)]
+
 ghost use Rattle.std.specs.Prelude.{◌≡◌};
 ghost use Rattle.call_history.specs.Model as model;
-ghost use Rattle.call_model.specs.Calls.{answerOn, bytesAfter};
+ghost use Rattle.call_model.specs.Calls.{answer_on, bytes_after};
 ghost use Rattle.call_model.specs.Reading.{reading};
 ghost use Rattle.call_datagram.specs.Received.{received};
 ghost use Rattle.call_low.specs.Got.{full_clock_number, answer_low, bytes_low, received_low};
@@ -23,7 +25,7 @@ pub fn datagram_on(
     datagram: &[u8],
 ) -> u32
     ensures value { result ≡ received_code (received table.old clock unix address.now port signer.now datagram.now) }
-    ensures table_after { table.new ≡ bytesAfter reading table.old (model.datagram clock unix address.now port signer.now datagram.now) }
+    ensures table_after { table.new ≡ bytes_after reading table.old (model.datagram clock unix address.now port signer.now datagram.now) }
 {
     let received = call_datagram::datagram_on(
         table,
@@ -48,16 +50,16 @@ pub fn ping_sent_on(
     tcp: u16,
     hash: &[u8],
 ) -> u8
-    ensures value { result ≡ answerOn reading table.old (model.ping_sent clock key.now address.now udp tcp hash.now) }
-    ensures table_after { table.new ≡ bytesAfter reading table.old (model.ping_sent clock key.now address.now udp tcp hash.now) }
+    ensures value { result ≡ answer_on reading table.old (model.ping_sent clock key.now address.now udp tcp hash.now) }
+    ensures table_after { table.new ≡ bytes_after reading table.old (model.ping_sent clock key.now address.now udp tcp hash.now) }
 {
     call_ping_sent::ping_sent_on(table, MonotonicMillis(clock), key, address, udp, tcp, hash)
 }
 
 // The answer number of a sweep.
 pub fn sweep_on(table: &mut [u8], clock: u64) -> u8
-    ensures value { result ≡ answerOn reading table.old (model.sweep clock) }
-    ensures table_after { table.new ≡ bytesAfter reading table.old (model.sweep clock) }
+    ensures value { result ≡ answer_on reading table.old (model.sweep clock) }
+    ensures table_after { table.new ≡ bytes_after reading table.old (model.sweep clock) }
 {
     call_sweep::sweep_on(table, MonotonicMillis(clock))
 }

@@ -8,8 +8,8 @@ use Rattle.octets.specs.Octets.{Bytes}
 use Rattle.lists.specs.Lists.{first, All}
 use Rattle.lists.proofs.Laws.{by_test}
 use Rattle.bucket_model.specs.Contents.{Contents}
-use Rattle.call_history.specs.Model.{Env, Reading, refused, ping, pong, other, packetRefusals, datagramRefusals, datagram}
-use Rattle.call_model.specs.Calls.{answerOn, refusalsOn, envOf, bucketFor}
+use Rattle.call_history.specs.Model.{Env, Reading, refused, ping, pong, other, packet_refusals, datagram_refusals, datagram}
+use Rattle.call_model.specs.Calls.{answer_on, refusals_on, env_of, bucket_for}
 use Rattle.call_model.specs.Reading.{reading}
 use Rattle.call_answer.specs.Answer.{outcome_number}
 use Rattle.call_datagram.specs.Received.{received}
@@ -37,17 +37,17 @@ first_small : (l : List (Bool × ℕ)) → Small l → first l < 256
 first_small [] h = omega arith
 first_small (t ∷ l) h = by_test t.0 (λ e. rw e h.0) (λ e. rw e (first_small l h.1))
 
-packet_small : (e : Env) (now : ℕ) (address : Bytes) (udp : ℕ) (key : Bytes) (r : Reading) (b : Contents) → Small (packetRefusals e now address udp key r b)
+packet_small : (e : Env) (now : ℕ) (address : Bytes) (udp : ℕ) (key : Bytes) (r : Reading) (b : Contents) → Small (packet_refusals e now address udp key r b)
 packet_small e now address udp key (refused fault) b = tt
 packet_small e now address udp key ping b = tt
 packet_small e now address udp key (pong hash) b = (omega arith, (omega arith, tt))
 packet_small e now address udp key other b = (omega arith, tt)
 
-answer_small : (s : Bytes) (now unix : ℕ) (address : Bytes) (udp : ℕ) (key g : Bytes) → answerOn reading s (datagram now unix address udp key g) < 256
-unfolding answerOn datagramRefusals
+answer_small : (s : Bytes) (now unix : ℕ) (address : Bytes) (udp : ℕ) (key g : Bytes) → answer_on reading s (datagram now unix address udp key g) < 256
+unfolding answer_on datagram_refusals
 answer_small s now unix address udp key g =
-    let few = packet_small (envOf reading s) now address udp key (reading g unix) (bucketFor reading s key) in
-    first_small (refusalsOn reading s (datagram now unix address udp key g))
+    let few = packet_small (env_of reading s) now address udp key (reading g unix) (bucket_for reading s key) in
+    first_small (refusals_on reading s (datagram now unix address udp key g))
     (omega arith, (omega arith, (omega arith, (omega arith, (omega arith, (omega arith, (omega arith, (omega arith, (omega arith, (omega arith, (omega arith, (omega arith, few))))))))))))
 
 pub code-number : CodeNumber

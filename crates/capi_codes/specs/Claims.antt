@@ -2,7 +2,7 @@
 use Rattle.std.specs.Prelude.{ℕ, ◌≡◌}
 use Rattle.octets.specs.Octets.{Bytes}
 use Rattle.call_history.specs.Model.{datagram}
-use Rattle.call_model.specs.Calls.{answerOn}
+use Rattle.call_model.specs.Calls.{answer_on}
 use Rattle.call_model.specs.Reading.{reading}
 use Rattle.call_datagram.specs.Received.{received}
 use Rattle.capi_codes.specs.Codes.{number_in, received_code}
@@ -11,4 +11,4 @@ use Rattle.capi_codes.specs.Codes.{number_in, received_code}
 abbrev pub CodeNumber : Type 0
 CodeNumber =
     (s : Bytes) (now unix : ℕ) (address : Bytes) (udp : ℕ) (key g : Bytes)
-    → number_in (received_code (received s now unix address udp key g)) ≡ answerOn reading s (datagram now unix address udp key g)
+    → number_in (received_code (received s now unix address udp key g)) ≡ answer_on reading s (datagram now unix address udp key g)

@@ -1,4 +1,6 @@
 // The answers of the C boundary in one number: an answer number in the low byte and a value above it.
+#![tactic(auto)]
+
 ghost use Rattle.std.specs.Prelude.{◌≡◌, ◌≤◌, ◌<◌, ◌^◌};
 ghost use Rattle.written.specs.Written.{written_size};
 ghost use Rattle.capi_codes.specs.Codes as codes;

@@ -1,4 +1,6 @@
 // What C is told of a boot list that was read or written, as numbers in fixed places.
+#![tactic(auto)]
+
 ghost use Rattle.std.specs.Prelude.{◌≡◌};
 ghost use Rattle.written.specs.Written.{written_number};
 ghost use Rattle.capi_enode.specs.Told.{end_line, told_boot, size_after};

@@ -1,4 +1,6 @@
 // Nodes for a Neighbors as C passes them: packed in 85 bytes each.
+#![tactic(auto)]
+
 ghost use Rattle.std.specs.Prelude.{◌≡◌, true, ◌+◌, ◌*◌, ◌/◌, ◌≤◌, ◌<◌, length, take};
 ghost use Rattle.capi_nodes.specs.Packed.{packed_at, packed_list, is_packed};
 

@@ -1,4 +1,6 @@
 // The fields of a datagram's packet as numbers in fixed places, and the nodes of a Neighbors, for C.
+#![tactic(auto)]
+
 ghost use Rattle.std.specs.Prelude.{◌≡◌};
 ghost use Rattle.packet_span.specs.Parts.{bytes_of};
 ghost use Rattle.packet_fields.specs.Spans.{node_at};
@@ -169,7 +171,7 @@ fn fields_of(packet: Packet) -> [u64; 20]
 }
 
 // What reading a datagram gives: see read_fields.
-#[derive(Drop)]
+#[derive(Clone, Copy)]
 pub struct Fields {
     pub number: u8,
     pub fields: [u64; 20],

@@ -1,5 +1,7 @@
 // What C is told of a table and of a key: numbers in fixed places, and a node record. Where the answer number isn't 0, what is lent stays as it
 // was.
+#![tactic(auto)]
+
 ghost use Rattle.std.specs.Prelude.{◌≡◌};
 ghost use Rattle.capi_table.specs.Told.{told_state, told_size, ping_numbers, node_of_head, told_head, held_numbers, node_of_found, told_found};
 

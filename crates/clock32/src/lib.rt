@@ -1,15 +1,17 @@
 // A 32-bit reading of the box clock, widened by the table's clock (document 02, C-20).
+#![tactic(auto)]
+
 ghost use Rattle.std.specs.Prelude.{◌≡◌};
 ghost use Rattle.clock32.specs.Widened.{widened};
 
 use node::MonotonicMillis;
 
 // The box clock as a counter of 32 bits reads it, which rolls over.
-#[derive(Drop)]
+#[derive(Clone, Copy)]
 pub struct LowMillis(pub u32);
 
 // What a reading gives with the table's clock.
-#[derive(Drop)]
+#[derive(Clone, Copy)]
 pub enum Widened {
     // The full clock.
     At(MonotonicMillis),

@@ -1,4 +1,6 @@
 // The closest call of the public library: the nodes nearest to a target, written into a list that the caller lends.
+#![tactic(auto)]
+
 ghost use Rattle.std.specs.Prelude.{◌≡◌, ◌≤◌, length};
 ghost use Rattle.closest_nodes.specs.Listing.{listed, list_after, with_chosen};
 ghost use Rattle.closest.specs.Steps.{found};
@@ -47,7 +49,7 @@ fn with_nodes(list: [Node; 16], table: &[u8], choice: Choice) -> [Node; 16]
 }
 
 // What a closest call answers, and the list after it.
-#[derive(Drop)]
+#[derive(Clone, Copy)]
 pub struct Found {
     pub number: u8,
     pub count: usize,

@@ -21,7 +21,7 @@ use Rattle.bucket_model.proofs.ByteForm.{entries_at-part, entry_at}
 use Rattle.table_model.specs.Layout.{offset_of, bucket_at, buckets_of}
 use Rattle.table_model.specs.Sound.{table_sound}
 use Rattle.call_history.specs.Model.{closest}
-use Rattle.call_model.specs.Calls.{answerOn}
+use Rattle.call_model.specs.Calls.{answer_on}
 use Rattle.closest_nearest.specs.declared.Nearest.{Nearest}
 use Rattle.closest_nearest.specs.Nearest.{holding}
 use Rattle.closest_order.specs.Taken.{distances}
@@ -48,7 +48,7 @@ module _ (s target : Bytes) (room : ℕ) {hash : Bytes} (eh : hash ≡ keccak256
   by_number n = choice_by n (nearest.closest (keccak256 target) (buckets_of s)) (distances s (keccak256 target))
 
   is-chosen : (n : ℕ) {r : Choice} → n ≡ tests → r ≡ by_number n → r ≡ chosen s target room
-  unfolding chosen answerOn
+  unfolding chosen answer_on
   is-chosen n en er = er ∙ ap by_number en
 
   pub unsound : {r : Choice} → not c.sound ≡ true → r ≡ none 1 → r ≡ chosen s target room

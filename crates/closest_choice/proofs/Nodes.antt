@@ -21,7 +21,7 @@ use Rattle.table_model.specs.Sound.{table_sound}
 use Rattle.table_model.proofs.Table.{count_read, bucket_read}
 use Rattle.table_model.proofs.Sound.{table_header}
 use Rattle.closest_nearest.specs.declared.Near.{Near}
-use Rattle.closest_nearest.specs.Sort.{sortBy}
+use Rattle.closest_nearest.specs.Sort.{sort_by}
 use Rattle.closest_table.specs.Closest as nearest
 use Rattle.closest_table.proofs.Most.{slot-fits, few-entries, entries-are}
 use Rattle.closest_table.proofs.Nearest.{entry_of, Names, closest-name, closest-entries}
@@ -74,7 +74,7 @@ module _ (s : Bytes) (sound : table_sound s ≡ true) where
 
     -- the nodes of the entries of all buckets, nearest to the target first, where the target is a hash
     pub closest-nodes : length target ≡ 32 → IsBytes target → map (λ n. node_in s n.slot n.index) (nearest.closest target (buckets_of s))
-        ≡ map node_of (take 16 (sortBy (λ e. distance target (keccak256 e.key)) (flat_map (λ b. b.entries) (buckets_of s))))
+        ≡ map node_of (take 16 (sort_by (λ e. distance target (keccak256 e.key)) (flat_map (λ b. b.entries) (buckets_of s))))
     closest-nodes size bytes =
         let node : Near → Node = λ n. node_in s n.slot n.index in
         let entry : Near → Entry = entry_of (buckets_of s) in

@@ -10,7 +10,7 @@ use Rattle.entry.specs.Nodes.{node_of}
 use Rattle.table_model.specs.Layout.{offset_of, bucket_at, buckets_of}
 use Rattle.call_history.specs.Model.{closest}
 use Rattle.call_model.specs.Reading.{reading}
-use Rattle.call_model.specs.Calls.{answerOn}
+use Rattle.call_model.specs.Calls.{answer_on}
 use Rattle.closest_nearest.specs.declared.Near.{Near}
 use Rattle.closest_nearest.specs.Nearest.{holding}
 use Rattle.closest_order.specs.Taken.{distances}
@@ -24,7 +24,7 @@ choice_by n l d = record { number = n; nearest = holding (cond (eqb n 0) l []); 
 -- the answer number, the entries nearest to the target, nearest first, and how many distances were worked out, for a list of `room` records
 unfoldable pub chosen : Bytes → Bytes → ℕ → Choice
 chosen s target room =
-    choice_by (answerOn reading s (closest target room)) (nearest.closest (keccak256 target) (buckets_of s)) (distances s (keccak256 target))
+    choice_by (answer_on reading s (closest target room)) (nearest.closest (keccak256 target) (buckets_of s)) (distances s (keccak256 target))
 
 -- there is an entry with this index, counted from the head, in the bucket in this slot
 abbrev pub is_there : Bytes → ℕ → ℕ → Bool

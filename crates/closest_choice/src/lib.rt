@@ -1,4 +1,6 @@
 // What a closest call chooses of a table in lent bytes, for any bytes.
+#![tactic(auto)]
+
 ghost use Rattle.std.specs.Prelude.{◌≡◌, []};
 ghost use Rattle.closest_nearest.specs.Nearest.{holding};
 ghost use Rattle.closest_choice.specs.Choice.{chosen, node_in};
@@ -9,7 +11,7 @@ use entry::Entry;
 use node::Node;
 
 // The entries nearest to a target, nearest first, and how many distances were worked out for them; or the answer number and none of them.
-#[derive(Drop)]
+#[derive(Clone, Copy)]
 pub struct Choice {
     pub number: u8,
     pub nearest: Nearest,

@@ -11,7 +11,7 @@ use lib.Seq.{take-suc-set, take_all}
 use Rattle.octets.specs.Octets.{Bytes, IsBytes, number, big_endian}
 use Rattle.octets.proofs.Laws.{number-big_endian, part_all}
 use Rattle.distance.specs.Distance.{distance}
-use Rattle.distance.proofs.Laws.{up_to, upTo-next, distance-less}
+use Rattle.distance.proofs.Laws.{up_to, up_to_next, distance-less}
 
 module _ (a b : Bytes) (la : length a ≡ 32) (lb : length b ≡ 32) (ba : IsBytes a) (bb : IsBytes b) where
   -- the number of a distance's bytes
@@ -30,7 +30,7 @@ module _ (a b : Bytes) (la : length a ≡ 32) (lb : length b ≡ 32) (ba : IsByt
       let high : (up_to a b i * 256 + x) / 256 ≡ up_to a b i = digits_div (up_to a b i) small in
       let low : (up_to a b i * 256 + x) % 256 ≡ x = digits_mod (up_to a b i) small in
       front
-      ∙ sym (rw (upTo-next a b la lb ba bb i h, add-one, high, low) refl)
+      ∙ sym (rw (up_to_next a b la lb ba bb i h, add-one, high, low) refl)
 
   -- all of them are
   pub far-all : (s : Bytes) → length s ≡ 32 → take 32 s ≡ big_endian 32 (up_to a b 32) → s ≡ big_endian 32 (distance a b)

@@ -1,4 +1,6 @@
 // The distance to a target, worked out once, and two of them compared.
+#![tactic(auto)]
+
 ghost use Rattle.std.specs.Prelude.{◌≡◌, leb};
 ghost use Rattle.octets.specs.Octets.{number, big_endian};
 ghost use Rattle.distance.specs.Distance.{distance};

@@ -6,7 +6,7 @@ use native.Mathlib.Omega.{arith}
 use lib.ListN.{length, take, replicate, length-take}
 use lib.Seq.{take-append_seam}
 use Rattle.closest_nearest.specs.declared.Near.{Near}
-use Rattle.closest_nearest.specs.Sort.{insertAll}
+use Rattle.closest_nearest.specs.Sort.{insert_all}
 use Rattle.closest_nearest.specs.Nearest.{no_near, farness, holding, held, Ordered}
 use Rattle.closest_nearest.proofs.Sort.{Sorted, sorted_all, Rising-take}
 
@@ -22,8 +22,8 @@ ordered_holding l n r =
     }
 
 -- the first sixteen, once more were put in
-pub ordered_all : (l m : List Near) → Sorted farness m → Ordered (holding (take 16 (insertAll farness l m)))
+pub ordered_all : (l m : List Near) → Sorted farness m → Ordered (holding (take 16 (insert_all farness l m)))
 ordered_all l m r =
-    ordered_holding (take 16 (insertAll farness l m))
-    (omega (arith, length-take 16 (insertAll farness l m)))
-    (Rising-take (λ a b. farness a ≤ farness b) 16 (insertAll farness l m) (sorted_all farness l m r))
+    ordered_holding (take 16 (insert_all farness l m))
+    (omega (arith, length-take 16 (insert_all farness l m)))
+    (Rising-take (λ a b. farness a ≤ farness b) 16 (insert_all farness l m) (sorted_all farness l m r))

@@ -13,9 +13,9 @@ use Rattle.lists.specs.Lists.{before}
 use Rattle.lists.proofs.Laws.{by_test}
 use Rattle.closest_nearest.specs.declared.Near.{Near}
 use Rattle.closest_nearest.specs.declared.Nearest.{Nearest}
-use Rattle.closest_nearest.specs.Sort.{insertBy}
+use Rattle.closest_nearest.specs.Sort.{insert_by}
 use Rattle.closest_nearest.specs.Nearest.{no_near, farness, holding, held, Ordered}
-use Rattle.closest_nearest.proofs.Sort.{notLower, first-place, place_after, insert-before}
+use Rattle.closest_nearest.proofs.Sort.{not_lower, first-place, place_after, insert-before}
 use Rattle.closest_nearest.proofs.Shift.{put-filled}
 
 length_before : {A : Type 0} (q : A → Bool) (l : List A) → length (before q l) ≤ length l
@@ -42,22 +42,22 @@ module _ (n : Nearest) (x : Near) (o : Ordered n) (size : length n.list ≡ 16) 
   at_held j h = get_or-take n.count n.list j nowhere h
 
   behind-held : (k : ℕ) → Behind x.far n k → (j : ℕ) → k ≤ j → j < length (held n)
-      → notLower farness x (get_or (held n) j nowhere) ≡ true
+      → not_lower farness x (get_or (held n) j nowhere) ≡ true
   behind-held k b j h l =
       let l' : j < n.count = omega (arith, count_held) in
       rw (at_held j l') (b j h l')
 
   pub place_found : (k : ℕ) → 0 < k → k ≤ n.count
       → leb (farness x) (farness (get_or n.list (k - 1) nowhere)) ≡ false
-      → Behind x.far n k → k ≡ length (before (notLower farness x) (held n))
+      → Behind x.far n k → k ≡ length (before (not_lower farness x) (held n))
   place_found k h l e b =
-      let near : notLower farness x (get_or (held n) (k - 1) nowhere) ≡ false = rw (at_held (k - 1) (omega arith)) e in
-      let after : length (before (notLower farness x) (held n)) ≡ suc (k - 1) =
+      let near : not_lower farness x (get_or (held n) (k - 1) nowhere) ≡ false = rw (at_held (k - 1) (omega arith)) e in
+      let after : length (before (not_lower farness x) (held n)) ≡ suc (k - 1) =
       place_after farness x (held n) (k - 1) nowhere o.rising (omega (arith, count_held)) near
       (λ i p q. behind-held k b i (omega arith) q) in
       omega arith
 
-  pub place-first : Behind x.far n 0 → 0 ≡ length (before (notLower farness x) (held n))
+  pub place-first : Behind x.far n 0 → 0 ≡ length (before (not_lower farness x) (held n))
   place-first b = sym (first-place farness x (held n) nowhere (λ i q. behind-held 0 b i (omega arith) q))
 
 -- one more behind
@@ -66,17 +66,17 @@ behind_more far n k b h j p q =
     by_test (eqb j (k - 1)) (λ e. rw (eqb-true j (k - 1) e) h) (λ e. b j (omega (arith, eqb-false j (k - 1) e)) q)
 
 pub insert_held : (n : Nearest) (x : Near) → Ordered n → length n.list ≡ 16 → (k : ℕ)
-    → k ≡ length (before (notLower farness x) (held n)) → k < 16
+    → k ≡ length (before (not_lower farness x) (held n)) → k < 16
     → {count : ℕ} {list : List Near}
     → count ≡ min 16 (n.count + 1)
     → list ≡ take k n.list ++ x ∷ take (15 - k) (drop k n.list)
-    → record { count = count; list = list } ≡ holding (take 16 (insertBy farness x (held n)))
+    → record { count = count; list = list } ≡ holding (take 16 (insert_by farness x (held n)))
 insert_held n x o size k e h {count} {list} ec el =
     let l : List Near = held n in
     let len : length l ≡ n.count = length-take-le n.count n.list (omega (arith, o.few)) in
     let new : List Near = take k l ++ x ∷ drop k l in
-    let within : k ≤ length l = rw e (length_before (notLower farness x) l) in
-    let put : insertBy farness x l ≡ new =
+    let within : k ≤ length l = rw e (length_before (not_lower farness x) l) in
+    let put : insert_by farness x l ≡ new =
     insert-before farness x l ∙ ap (λ (m : ℕ). take m l ++ x ∷ drop m l) (sym e) in
     let full : n.list ≡ l ++ replicate (16 - length l) no_near = ap (λ m. m.list) o.form in
     let one : length new ≡ n.count + 1 =
@@ -90,14 +90,14 @@ insert_held n x o size k e h {count} {list} ec el =
 
 -- the seventeenth falls off
 pub insert_none : (n : Nearest) (x : Near) → Ordered n → length n.list ≡ 16
-    → 16 ≤ length (before (notLower farness x) (held n))
-    → n ≡ holding (take 16 (insertBy farness x (held n)))
+    → 16 ≤ length (before (not_lower farness x) (held n))
+    → n ≡ holding (take 16 (insert_by farness x (held n)))
 insert_none n x o size h =
     let l : List Near = held n in
     let len : length l ≡ n.count = length-take-le n.count n.list (omega (arith, o.few)) in
-    let most : length (before (notLower farness x) l) ≤ length l = length_before (notLower farness x) l in
-    let k : length (before (notLower farness x) l) ≡ 16 = omega (arith, o.few) in
-    let put : insertBy farness x l ≡ take 16 l ++ x ∷ drop 16 l =
+    let most : length (before (not_lower farness x) l) ≤ length l = length_before (not_lower farness x) l in
+    let k : length (before (not_lower farness x) l) ≡ 16 = omega (arith, o.few) in
+    let put : insert_by farness x l ≡ take 16 l ++ x ∷ drop 16 l =
     insert-before farness x l ∙ ap (λ (m : ℕ). take m l ++ x ∷ drop m l) k in
     let front : take 16 (take 16 l ++ x ∷ drop 16 l) ≡ l =
     take_at (take 16 l) (x ∷ drop 16 l) 16 (length-take-le 16 l (omega arith)) ∙ take_all 16 l (omega (arith, o.few)) in

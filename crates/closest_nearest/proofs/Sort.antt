@@ -11,7 +11,7 @@ use lib.ListN.{length, take, drop, get_or}
 use lib.Seq.{take-take}
 use Rattle.lists.specs.Lists.{select, before, All, Rising}
 use Rattle.lists.proofs.Laws.{by_test, All-imp}
-use Rattle.closest_nearest.specs.Sort.{insertBy, insertAll, sortBy}
+use Rattle.closest_nearest.specs.Sort.{insert_by, insert_all, sort_by}
 
 module _ {A : Type 0} where
   pub All-take : (P : A → Type 0) (n : ℕ) (l : List A) → All P l → All P (take n l)
@@ -38,22 +38,22 @@ module _ {A : Type 0} (f : A → ℕ) where
   abbrev pub Sorted : List A → Type 0
   Sorted = Rising (λ a b. f a ≤ f b)
 
-  abbrev pub notLower : A → A → Bool
-  notLower a b = leb (f a) (f b)
+  abbrev pub not_lower : A → A → Bool
+  not_lower a b = leb (f a) (f b)
 
   pub insert-before : (a : A) (l : List A)
-      → insertBy f a l ≡ take (length (before (notLower a) l)) l ++ a ∷ drop (length (before (notLower a) l)) l
-  unfolding insertBy
+      → insert_by f a l ≡ take (length (before (not_lower a) l)) l ++ a ∷ drop (length (before (not_lower a) l)) l
+  unfolding insert_by
   insert-before a [] = refl
   insert-before a (b ∷ l) = by_test (leb (f a) (f b)) (λ h. rw h refl) (λ h. rw h (ap (λ m. b ∷ m) (insert-before a l)))
 
-  All-insert : (P : A → Type 0) (a : A) (l : List A) → P a → All P l → All P (insertBy f a l)
-  unfolding insertBy
+  All-insert : (P : A → Type 0) (a : A) (l : List A) → P a → All P l → All P (insert_by f a l)
+  unfolding insert_by
   All-insert P a [] p q = (p, tt)
   All-insert P a (b ∷ l) p q = by_test (leb (f a) (f b)) (λ h. rw h (p, q)) (λ h. rw h (q.0, All-insert P a l p q.1))
 
-  pub sorted_insert : (a : A) (l : List A) → Sorted l → Sorted (insertBy f a l)
-  unfolding insertBy
+  pub sorted_insert : (a : A) (l : List A) → Sorted l → Sorted (insert_by f a l)
+  unfolding insert_by
   sorted_insert a [] r = (tt, tt)
   sorted_insert a (b ∷ l) r =
       by_test (leb (f a) (f b))
@@ -62,40 +62,40 @@ module _ {A : Type 0} (f : A → ℕ) where
       (λ h. let lt : f b < f a = leb-false (f a) (f b) h in
       rw h (All-insert (λ c. f b ≤ f c) a l (omega arith) r.0, sorted_insert a l r.1))
 
-  pub sorted_all : (l m : List A) → Sorted m → Sorted (insertAll f l m)
-  unfolding insertAll
+  pub sorted_all : (l m : List A) → Sorted m → Sorted (insert_all f l m)
+  unfolding insert_all
   sorted_all [] m r = r
-  sorted_all (a ∷ l) m r = sorted_insert a (insertAll f l m) (sorted_all l m r)
+  sorted_all (a ∷ l) m r = sorted_insert a (insert_all f l m) (sorted_all l m r)
 
-  pub sorted : (l : List A) → Sorted (sortBy f l)
+  pub sorted : (l : List A) → Sorted (sort_by f l)
   sorted l = sorted_all l [] tt
 
-  pub insert-append : (l m n : List A) → insertAll f (l ++ m) n ≡ insertAll f l (insertAll f m n)
-  unfolding insertAll
+  pub insert-append : (l m n : List A) → insert_all f (l ++ m) n ≡ insert_all f l (insert_all f m n)
+  unfolding insert_all
   insert-append [] m n = refl
-  insert-append (a ∷ l) m n = ap (λ r. insertBy f a r) (insert-append l m n)
+  insert-append (a ∷ l) m n = ap (λ r. insert_by f a r) (insert-append l m n)
 
-  pub All-sort : (P : A → Type 0) (l : List A) → All P l → All P (sortBy f l)
-  unfolding insertAll
+  pub All-sort : (P : A → Type 0) (l : List A) → All P l → All P (sort_by f l)
+  unfolding insert_all
   All-sort P [] p = tt
-  All-sort P (a ∷ l) p = All-insert P a (sortBy f l) p.0 (All-sort P l p.1)
+  All-sort P (a ∷ l) p = All-insert P a (sort_by f l) p.0 (All-sort P l p.1)
 
-  length-insert : (a : A) (l : List A) → length (insertBy f a l) ≡ suc (length l)
-  unfolding insertBy
+  length-insert : (a : A) (l : List A) → length (insert_by f a l) ≡ suc (length l)
+  unfolding insert_by
   length-insert a [] = refl
   length-insert a (b ∷ l) = by_test (leb (f a) (f b)) (λ h. rw h refl) (λ h. rw h (ap suc (length-insert a l)))
 
-  pub length-sort : (l : List A) → length (sortBy f l) ≡ length l
-  unfolding insertAll
+  pub length-sort : (l : List A) → length (sort_by f l) ≡ length l
+  unfolding insert_all
   length-sort [] = refl
-  length-sort (a ∷ l) = length-insert a (sortBy f l) ∙ ap suc (length-sort l)
+  length-sort (a ∷ l) = length-insert a (sort_by f l) ∙ ap suc (length-sort l)
 
   -- of each number, the same elements in the same order
   abbrev OfNumber : ℕ → List A → List A
   OfNumber n = select (λ b. eqb (f b) n)
 
-  insert-stable : (n : ℕ) (a : A) (l : List A) → OfNumber n (insertBy f a l) ≡ OfNumber n (a ∷ l)
-  unfolding insertBy
+  insert-stable : (n : ℕ) (a : A) (l : List A) → OfNumber n (insert_by f a l) ≡ OfNumber n (a ∷ l)
+  unfolding insert_by
   insert-stable n a [] = refl
   insert-stable n a (b ∷ l) =
       by_test (leb (f a) (f b))
@@ -106,15 +106,15 @@ module _ {A : Type 0} (f : A → ℕ) where
       (λ q. simp (h, q, p, insert-stable n a l)))
       (λ p. by_test (eqb (f b) n) (λ q. simp (h, q, p, insert-stable n a l)) (λ q. simp (h, q, p, insert-stable n a l))))
 
-  pub stable : (n : ℕ) (l : List A) → select (λ b. eqb (f b) n) (sortBy f l) ≡ select (λ b. eqb (f b) n) l
-  unfolding insertAll
+  pub stable : (n : ℕ) (l : List A) → select (λ b. eqb (f b) n) (sort_by f l) ≡ select (λ b. eqb (f b) n) l
+  unfolding insert_all
   stable n [] = refl
   stable n (a ∷ l) =
-      insert-stable n a (sortBy f l) ∙ by_test (eqb (f a) n) (λ h. simp (h, stable n l)) (λ h. simp (h, stable n l))
+      insert-stable n a (sort_by f l) ∙ by_test (eqb (f a) n) (λ h. simp (h, stable n l)) (λ h. simp (h, stable n l))
 
   -- the first n after an insertion need only the first n before it
-  pub take-insert : (n : ℕ) (a : A) (l : List A) → take n (insertBy f a (take n l)) ≡ take n (insertBy f a l)
-  unfolding insertBy
+  pub take-insert : (n : ℕ) (a : A) (l : List A) → take n (insert_by f a (take n l)) ≡ take n (insert_by f a l)
+  unfolding insert_by
   take-insert zero a l = refl
   take-insert (suc n) a [] = refl
   take-insert (suc n) a (b ∷ l) =
@@ -122,22 +122,22 @@ module _ {A : Type 0} (f : A → ℕ) where
       (λ h. rw h (ap (λ m. a ∷ m) (take-cons n b l)))
       (λ h. rw h (ap (λ m. b ∷ m) (take-insert n a l)))
 
-  pub take-insert-all : (n : ℕ) (l m : List A) → take n (insertAll f l (take n m)) ≡ take n (insertAll f l m)
-  unfolding insertAll
+  pub take-insert-all : (n : ℕ) (l m : List A) → take n (insert_all f l (take n m)) ≡ take n (insert_all f l m)
+  unfolding insert_all
   take-insert-all n [] m = take-take n n m (omega arith)
   take-insert-all n (a ∷ l) m =
-      sym (take-insert n a (insertAll f l (take n m)))
-      ∙ ap (λ r. take n (insertBy f a r)) (take-insert-all n l m)
-      ∙ take-insert n a (insertAll f l m)
+      sym (take-insert n a (insert_all f l (take n m)))
+      ∙ ap (λ r. take n (insert_by f a r)) (take-insert-all n l m)
+      ∙ take-insert n a (insert_all f l m)
 
   -- ---- the place of an element, looked for from the end of a sorted list
 
-  pub first-place : (a : A) (l : List A) (d : A) → ((i : ℕ) → i < length l → notLower a (get_or l i d) ≡ true) → length (before (notLower a) l) ≡ 0
+  pub first-place : (a : A) (l : List A) (d : A) → ((i : ℕ) → i < length l → not_lower a (get_or l i d) ≡ true) → length (before (not_lower a) l) ≡ 0
   first-place a [] d h = refl
   first-place a (b ∷ l) d h = rw (h 0 (omega arith)) refl
 
-  pub place_after : (a : A) (l : List A) (j : ℕ) (d : A) → Sorted l → j < length l → notLower a (get_or l j d) ≡ false
-      → ((i : ℕ) → j < i → i < length l → notLower a (get_or l i d) ≡ true) → length (before (notLower a) l) ≡ suc j
+  pub place_after : (a : A) (l : List A) (j : ℕ) (d : A) → Sorted l → j < length l → not_lower a (get_or l j d) ≡ false
+      → ((i : ℕ) → j < i → i < length l → not_lower a (get_or l i d) ≡ true) → length (before (not_lower a) l) ≡ suc j
   place_after a [] j d r k h g = absurd (omega arith)
   place_after a (b ∷ l) zero d r k h g = rw h (ap suc (first-place a l d (λ i p. g (suc i) (omega arith) (omega arith))))
   place_after a (b ∷ l) (suc j) d r k h g =
@@ -157,8 +157,8 @@ module _ {A B : Type 0} (f : A → ℕ) (g : B → ℕ) (h : A → B) where
   abbrev Kept : A → Type 0
   Kept a = f a ≡ g (h a)
 
-  insert-map : (a : A) (l : List A) → Kept a → All Kept l → map h (insertBy f a l) ≡ insertBy g (h a) (map h l)
-  unfolding insertBy
+  insert-map : (a : A) (l : List A) → Kept a → All Kept l → map h (insert_by f a l) ≡ insert_by g (h a) (map h l)
+  unfolding insert_by
   insert-map a [] e p = refl
   insert-map a (b ∷ l) e p =
       let same : leb (f a) (f b) ≡ leb (g (h a)) (g (h b)) = cc (e, p.0) in
@@ -166,7 +166,7 @@ module _ {A B : Type 0} (f : A → ℕ) (g : B → ℕ) (h : A → B) where
       (λ t. rw (t, sym same ∙ t) refl)
       (λ t. rw (t, sym same ∙ t) (ap (λ m. h b ∷ m) (insert-map a l e p.1)))
 
-  pub sort-map : (l : List A) → All (λ a. f a ≡ g (h a)) l → map h (sortBy f l) ≡ sortBy g (map h l)
-  unfolding insertAll
+  pub sort-map : (l : List A) → All (λ a. f a ≡ g (h a)) l → map h (sort_by f l) ≡ sort_by g (map h l)
+  unfolding insert_all
   sort-map [] p = refl
-  sort-map (a ∷ l) p = insert-map a (sortBy f l) p.0 (All-sort f Kept l p.1) ∙ ap (insertBy g (h a)) (sort-map l p.1)
+  sort-map (a ∷ l) p = insert-map a (sort_by f l) p.0 (All-sort f Kept l p.1) ∙ ap (insert_by g (h a)) (sort-map l p.1)

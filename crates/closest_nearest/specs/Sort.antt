@@ -3,14 +3,14 @@ use Rattle.std.specs.Prelude.{ℕ, cond, List, [], ◌∷◌, leb, ltb}
 
 module _ {A : Type 0} (f : A → ℕ) where
   -- a before the first element whose number isn't lower
-  unfoldable pub insertBy : A → List A → List A
-  insertBy a [] = a ∷ []
-  insertBy a (b ∷ l) = cond (leb (f a) (f b)) (a ∷ b ∷ l) (b ∷ insertBy a l)
+  unfoldable pub insert_by : A → List A → List A
+  insert_by a [] = a ∷ []
+  insert_by a (b ∷ l) = cond (leb (f a) (f b)) (a ∷ b ∷ l) (b ∷ insert_by a l)
 
   -- each of a list, the last one first
-  unfoldable pub insertAll : List A → List A → List A
-  insertAll [] m = m
-  insertAll (a ∷ l) m = insertBy a (insertAll l m)
+  unfoldable pub insert_all : List A → List A → List A
+  insert_all [] m = m
+  insert_all (a ∷ l) m = insert_by a (insert_all l m)
 
-  abbrev pub sortBy : List A → List A
-  sortBy l = insertAll l []
+  abbrev pub sort_by : List A → List A
+  sort_by l = insert_all l []

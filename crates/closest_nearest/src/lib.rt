@@ -1,11 +1,13 @@
 // The sixteen nearest to a target, by value.
+#![tactic(auto)]
+
 ghost use Rattle.std.specs.Prelude.{◌≡◌, [], ◌∷◌, ◌++◌, ◌+◌, ◌-◌, ◌≤◌, ◌<◌, min, leb, length, take, drop};
 ghost use Rattle.lists.specs.Lists.{before};
-ghost use Rattle.closest_nearest.specs.Sort.{insertBy};
+ghost use Rattle.closest_nearest.specs.Sort.{insert_by};
 ghost use Rattle.closest_nearest.specs.Nearest.{no_near, farness, holding, held, Ordered};
 
 // An entry by the slot of its bucket and its index there from the head, with its distance from the target.
-#[derive(Drop)]
+#[derive(Clone, Copy)]
 pub struct Near {
     pub slot: usize,
     pub index: usize,
@@ -13,7 +15,7 @@ pub struct Near {
 }
 
 // The nearest so far, nearest first; what lies past `count` is `Near::none()`.
-#[derive(Drop)]
+#[derive(Clone, Copy)]
 pub struct Nearest {
     pub count: usize,
     pub list: [Near; 16],
@@ -86,7 +88,7 @@ impl Nearest {
     // `x` takes its place, before those that are as far; a seventeenth falls off.
     pub fn insert(self, x: Near) -> Nearest
         requires { Ordered self }
-        ensures { result ≡ holding (take 16 (insertBy farness x (held self))) }
+        ensures { result ≡ holding (take 16 (insert_by farness x (held self))) }
     {
         let k = self.place(x);
         if 16 <= k {

@@ -15,7 +15,7 @@ use Rattle.node.specs.declared.Node.{Node}
 use Rattle.table_model.specs.Layout.{buckets_of}
 use Rattle.table_model.specs.Sound.{table_sound}
 use Rattle.closest_nearest.specs.declared.Near.{Near}
-use Rattle.closest_nearest.specs.Sort.{sortBy}
+use Rattle.closest_nearest.specs.Sort.{sort_by}
 use Rattle.closest_nearest.specs.Nearest.{farness}
 use Rattle.closest_nearest.proofs.Sort.{length-sort}
 use Rattle.closest_nearest.proofs.Held.{held-holding}
@@ -24,7 +24,7 @@ use Rattle.closest_table.specs.Closest as nearest
 use Rattle.closest_table.proofs.Most.{at_most_31}
 use Rattle.call_history.specs.Model.{closest}
 use Rattle.call_model.specs.Reading.{reading}
-use Rattle.call_model.specs.Calls.{refusalsOn, answerOn}
+use Rattle.call_model.specs.Calls.{refusals_on, answer_on}
 use Rattle.call_model.proofs.AnyBytes.{on-any-bytes}
 use Rattle.closest_choice.specs.declared.Choice.{Choice}
 use Rattle.entry.specs.Nodes.{node_of}
@@ -37,7 +37,7 @@ use Rattle.closest_nodes.specs.Listing.{entries_of, distance_to, closest_nodes, 
 pub count_of_closest : (s target : Bytes) → length (closest_nodes s target) ≡ min 16 (length (entries_of s))
 unfolding closest_nodes
 count_of_closest s target =
-    let sorted = sortBy (distance_to target) (entries_of s) in
+    let sorted = sort_by (distance_to target) (entries_of s) in
     length-map (take 16 sorted) node_of ∙ length-take 16 sorted ∙ ap (min 16) (length-sort (distance_to target) (entries_of s))
 
 module _ (s target : Bytes) (room : ℕ) where
@@ -50,16 +50,16 @@ module _ (s target : Bytes) (room : ℕ) where
 
   -- "Accepted means answered 0"
   accepted : number ≡ 0 → (table_sound s ≡ true) × (16 ≤ room)
-  unfolding answerOn
+  unfolding answer_on
   accepted e =
-      let p = passed (refusalsOn reading s (closest target room)) refl e in
+      let p = passed (refusals_on reading s (closest target room)) refl e in
       (not-false (table_sound s) p.0, ltb-false room 16 p.1.1.0)
 
   few : (length found ≤ 16) × (length found ≤ room)
   unfolding nearest.closest
   few =
       by_test (eqb number 0)
-      (λ t. let sorted = sortBy farness (candidates_from (keccak256 target) 0 (buckets_of s)) in
+      (λ t. let sorted = sort_by farness (candidates_from (keccak256 target) 0 (buckets_of s)) in
       let most : length (take 16 sorted) ≤ 16 = omega (arith, length-take 16 sorted) in
       rw t (most, omega (arith, most, (accepted (eqb-true number 0 t)).1)))
       (λ t. rw t (omega arith, omega arith))

@@ -9,11 +9,11 @@ use Rattle.node.specs.declared.Node.{Node}
 use Rattle.entry.specs.declared.Entry.{Entry}
 use Rattle.table_model.specs.Layout.{buckets_of}
 use Rattle.closest_nearest.specs.declared.Near.{Near}
-use Rattle.closest_nearest.specs.Sort.{sortBy}
+use Rattle.closest_nearest.specs.Sort.{sort_by}
 use Rattle.closest_order.specs.Taken.{distances}
 use Rattle.call_history.specs.Model.{closest}
 use Rattle.call_model.specs.Reading.{reading}
-use Rattle.call_model.specs.Calls.{answerOn}
+use Rattle.call_model.specs.Calls.{answer_on}
 use Rattle.call_model.specs.AnyBytes.{numbers_of}
 use Rattle.closest_choice.specs.declared.Choice.{Choice}
 use Rattle.entry.specs.Nodes.{node_of}
@@ -31,11 +31,11 @@ distance_to target e = distance (keccak256 target) (keccak256 e.key)
 -- "the min(16, seated) seated nodes nearest to the target, nearest first; equal distances by seat, head first": the sort keeps the order
 -- of entries at one distance
 unfoldable pub closest_nodes : Bytes → Bytes → List Node
-closest_nodes s target = map node_of (take 16 (sortBy (distance_to target) (entries_of s)))
+closest_nodes s target = map node_of (take 16 (sort_by (distance_to target) (entries_of s)))
 
 -- the answer number, for a list of `room` records: 1, 5, 19, or 0
 abbrev pub closest_number : Bytes → Bytes → ℕ → ℕ
-closest_number s target room = answerOn reading s (closest target room)
+closest_number s target room = answer_on reading s (closest target room)
 
 -- the nodes that the list receives: none where the call is refused
 unfoldable pub nodes_for : Bytes → Bytes → ℕ → List Node

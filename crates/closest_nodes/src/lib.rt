@@ -1,4 +1,6 @@
 // The nodes that a closest call lists: each of those chosen, and the answer.
+#![tactic(auto)]
+
 ghost use Rattle.std.specs.Prelude.{◌≡◌, ◌<◌};
 ghost use Rattle.closest_nodes.specs.Listing.{answer_of, chosen_node};
 
@@ -7,7 +9,7 @@ use node::Node;
 
 // The answer number of a closest call, how many nodes the list received, and how many distances were worked out: none where the call is
 // refused.
-#[derive(Drop)]
+#[derive(Clone, Copy)]
 pub struct Listed {
     pub number: u8,
     pub count: usize,

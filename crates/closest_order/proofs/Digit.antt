@@ -10,7 +10,7 @@ use lib.Pow.{shr-shr, field, mod-mod-pow}
 use Rattle.octets.specs.Octets.{Bytes, IsBytes}
 use Rattle.octets.proofs.Laws.{part_all}
 use Rattle.distance.specs.Distance.{distance}
-use Rattle.distance.proofs.Laws.{up_to, upTo-next}
+use Rattle.distance.proofs.Laws.{up_to, up_to_next}
 use Rattle.closest_order.specs.Taking.{is_set}
 
 -- a digit of the lowest byte
@@ -32,7 +32,7 @@ module _ (a b : Bytes) (la : length a ≡ 32) (lb : length b ≡ 32) (ba : IsByt
   shifted (suc m) k h =
       let e : k + suc m ≡ k + m + 1 = omega arith in
       let f : 8 * suc m ≡ 8 + 8 * m = omega arith in
-      let one : up_to a b (k + m + 1) / 2 ^ 8 ≡ up_to a b (k + m) = rw (upTo-next a b la lb ba bb (k + m) (omega arith)) (omega (arith, byte-less (k + m))) in
+      let one : up_to a b (k + m + 1) / 2 ^ 8 ≡ up_to a b (k + m) = rw (up_to_next a b la lb ba bb (k + m) (omega arith)) (omega (arith, byte-less (k + m))) in
       rw (e, f) (sym (shr-shr (up_to a b (k + m + 1)) 8 (8 * m)) ∙ ap (λ n. n / 2 ^ (8 * m)) one ∙ shifted m k (omega arith))
 
   -- place i lies in byte 31 - i / 8 from the front, there at place i % 8
@@ -45,7 +45,7 @@ module _ (a b : Bytes) (la : length a ≡ 32) (lb : length b ≡ 32) (ba : IsByt
       let all : k + 1 + m ≡ 32 = omega arith in
       let whole : distance a b ≡ up_to a b (k + 1 + m) = rw (all, part_all a 32 (omega arith), part_all b 32 (omega arith)) refl in
       let low : distance a b / 2 ^ (8 * m) ≡ up_to a b k * 256 + bit_xor (get_or a k 0) (get_or b k 0) =
-      ap (λ n. n / 2 ^ (8 * m)) whole ∙ shifted m (k + 1) (omega arith) ∙ upTo-next a b la lb ba bb k (omega arith) in
+      ap (λ n. n / 2 ^ (8 * m)) whole ∙ shifted m (k + 1) (omega arith) ∙ up_to_next a b la lb ba bb k (omega arith) in
       ap (λ n. eqb (n % 2) 1)
       (ap (λ j. distance a b / 2 ^ j) parts ∙ sym (shr-shr (distance a b) (8 * m) (i % 8)) ∙ ap (λ n. n / 2 ^ (i % 8)) low)
       ∙ ap (λ n. eqb n 1) (low_digit (up_to a b k) (bit_xor (get_or a k 0) (get_or b k 0)) (i % 8) (omega arith) (byte-less k))

@@ -7,7 +7,7 @@ use native.Mathlib.Omega.{arith}
 use lib.ListN.{length, take, set, replicate, length-append, length-replicate, replicate-append-replicate}
 use lib.Seq.{set_at, take_at, append_snoc}
 use Rattle.closest_order.specs.Taking.{is_set, rising, falling, taking_order}
-use Rattle.closest_order.proofs.Order.{setOnes, clearOnes, order_is, more-set, more-clear}
+use Rattle.closest_order.proofs.Order.{set_ones, clear_ones, order_is, more-set, more-clear}
 use Rattle.closest_order.proofs.Kept.{length-order}
 
 -- ---- a store at either end of the zeros between l and m
@@ -37,8 +37,8 @@ pub record Filled (x count : ℕ) (order : List ℕ) (front back i : ℕ) : Type
   pub last : back ≤ count
   pub below : i ≤ 256
   pub left : 256 + back ≡ i + count + front
-  pub size : length (setOnes x i (256 - i)) ≡ front
-  pub form : order ≡ setOnes x i (256 - i) ++ (zeros (back - front) ++ (clearOnes x i (256 - i) ++ zeros (256 - count)))
+  pub size : length (set_ones x i (256 - i)) ≡ front
+  pub form : order ≡ set_ones x i (256 - i) ++ (zeros (back - front) ++ (clear_ones x i (256 - i) ++ zeros (256 - count)))
 
 module _ (x count : ℕ) (few : count ≤ 256) where
   pub filled_none : Filled x count (zeros 256) 0 count 256
@@ -57,10 +57,10 @@ module _ (x count : ℕ) (few : count ≤ 256) where
 
   module _ {order : List ℕ} {front back i : ℕ} (f : Filled x count order front back i) where
     abbrev S : List ℕ
-    S = setOnes x i (256 - i)
+    S = set_ones x i (256 - i)
 
     abbrev C : List ℕ
-    C = clearOnes x i (256 - i)
+    C = clear_ones x i (256 - i)
 
     abbrev rest : List ℕ
     rest = C ++ zeros (256 - count)
@@ -72,7 +72,7 @@ module _ (x count : ℕ) (few : count ≤ 256) where
         let none : back - front ≡ 0 = omega arith in
         let form : order ≡ (S ++ C) ++ zeros (256 - count) =
         f.form ∙ ap (λ n. S ++ (zeros n ++ rest)) none ∙ sym (append_assoc S C (zeros (256 - count))) in
-        let whole : S ++ C ≡ taking_order x count = ap (λ n. setOnes x i n ++ clearOnes x i n) size ∙ ap (λ j. setOnes x j count ++ clearOnes x j count) at ∙ sym (order_is x count) in
+        let whole : S ++ C ≡ taking_order x count = ap (λ n. set_ones x i n ++ clear_ones x i n) size ∙ ap (λ j. set_ones x j count ++ clear_ones x j count) at ∙ sym (order_is x count) in
         ap (take count) form ∙ take_at (S ++ C) (zeros (256 - count)) count (ap length whole ∙ length-order x count few) ∙ whole
 
     module _ (more : front < back) where
@@ -91,17 +91,17 @@ module _ (x count : ℕ) (few : count ≤ 256) where
       pub filled-set : is_set (i - 1) x ≡ true → Filled x count (set order front (i - 1)) (front + 1) back (i - 1)
       filled-set e =
           let m = more-set x (i - 1) (256 - i) e in
-          let set-ones : setOnes x (i - 1) (256 - (i - 1)) ≡ S ++ ((i - 1) ∷ []) =
-          ap (setOnes x (i - 1)) one_more ∙ m.0 ∙ ap (λ j. setOnes x j (256 - i) ++ ((i - 1) ∷ [])) (sym next) in
-          let clear_ones : clearOnes x (i - 1) (256 - (i - 1)) ≡ C = ap (clearOnes x (i - 1)) one_more ∙ m.1 ∙ ap (λ j. clearOnes x j (256 - i)) (sym next) in
+          let set_part : set_ones x (i - 1) (256 - (i - 1)) ≡ S ++ ((i - 1) ∷ []) =
+          ap (set_ones x (i - 1)) one_more ∙ m.0 ∙ ap (λ j. set_ones x j (256 - i) ++ ((i - 1) ∷ [])) (sym next) in
+          let clear_part : clear_ones x (i - 1) (256 - (i - 1)) ≡ C = ap (clear_ones x (i - 1)) one_more ∙ m.1 ∙ ap (λ j. clear_ones x j (256 - i)) (sym next) in
           let left : back - (front + 1) ≡ back - front - 1 = omega arith in
           record {
             ends = omega arith;
             last = f.last;
             below = omega (arith, f.below);
             left = omega (arith, f.left, next);
-            size = ap length set-ones ∙ length-append S ((i - 1) ∷ []) ∙ ap (λ n. n + 1) f.size;
-            form = rw (set-ones, clear_ones, left)
+            size = ap length set_part ∙ length-append S ((i - 1) ∷ []) ∙ ap (λ n. n + 1) f.size;
+            form = rw (set_part, clear_part, left)
                 (stored front (i - 1)
                 ∙ ap (λ k. set (S ++ (zeros (suc (back - front - 1)) ++ rest)) k (i - 1)) (sym f.size)
                 ∙ set_first S rest (back - front - 1) (i - 1));
@@ -110,9 +110,9 @@ module _ (x count : ℕ) (few : count ≤ 256) where
       pub filled-clear : is_set (i - 1) x ≡ false → Filled x count (set order (back - 1) (i - 1)) front (back - 1) (i - 1)
       filled-clear e =
           let m = more-clear x (i - 1) (256 - i) e in
-          let set-ones : setOnes x (i - 1) (256 - (i - 1)) ≡ S = ap (setOnes x (i - 1)) one_more ∙ m.0 ∙ ap (λ j. setOnes x j (256 - i)) (sym next) in
-          let clear_ones : clearOnes x (i - 1) (256 - (i - 1)) ≡ (i - 1) ∷ C =
-          ap (clearOnes x (i - 1)) one_more ∙ m.1 ∙ ap (λ j. (i - 1) ∷ clearOnes x j (256 - i)) (sym next) in
+          let set_part : set_ones x (i - 1) (256 - (i - 1)) ≡ S = ap (set_ones x (i - 1)) one_more ∙ m.0 ∙ ap (λ j. set_ones x j (256 - i)) (sym next) in
+          let clear_part : clear_ones x (i - 1) (256 - (i - 1)) ≡ (i - 1) ∷ C =
+          ap (clear_ones x (i - 1)) one_more ∙ m.1 ∙ ap (λ j. (i - 1) ∷ clear_ones x j (256 - i)) (sym next) in
           let left : back - 1 - front ≡ back - front - 1 = omega arith in
           let at : back - 1 ≡ length S + (back - front - 1) = omega (arith, f.size) in
           record {
@@ -120,8 +120,8 @@ module _ (x count : ℕ) (few : count ≤ 256) where
             last = omega (arith, f.last);
             below = omega (arith, f.below);
             left = omega (arith, f.left, next);
-            size = ap length set-ones ∙ f.size;
-            form = rw (set-ones, clear_ones, left)
+            size = ap length set_part ∙ f.size;
+            form = rw (set_part, clear_part, left)
                 (stored (back - 1) (i - 1)
                 ∙ ap (λ k. set (S ++ (zeros (suc (back - front - 1)) ++ rest)) k (i - 1)) at
                 ∙ set_last S rest (back - front - 1) (i - 1));

@@ -16,13 +16,13 @@ use Rattle.octets.specs.Octets.{Bytes, number}
 use Rattle.lists.specs.Lists.{All, Rising}
 use Rattle.lists.proofs.Laws.{and_left, and_right, All-append, All-imp, All-every, All-and}
 use Rattle.distance.specs.Distance.{distance, in_bucket}
-use Rattle.closest_nearest.specs.Sort.{insertAll, sortBy}
+use Rattle.closest_nearest.specs.Sort.{insert_all, sort_by}
 use Rattle.closest_nearest.proofs.Sort.{All-sort, insert-append, length-sort}
 use Rattle.closest_order.specs.Taking.{is_set, rising, falling, taking_order, taken_from}
 use Rattle.closest_order.proofs.Turns.{taken-cases, taken_none}
 use Rattle.closest_order.proofs.Nearer.{nearer, farther}
 use Rattle.closest_order.proofs.Blocks.{insert-between}
-use Rattle.closest_order.proofs.Order.{setOnes, clearOnes, orderFrom, order_is, order-more, Within, within-set, within-clear, Rising-between, between-All}
+use Rattle.closest_order.proofs.Order.{set_ones, clear_ones, order_from, order_is, order-more, Within, within-set, within-clear, Rising-between, between-All}
 
 flat_map_append : {A : Type 0} (g : ℕ → List A) (l m : List ℕ) → flat_map g (l ++ m) ≡ flat_map g l ++ flat_map g m
 unfolding flat_map
@@ -70,94 +70,94 @@ module _ {A : Type 0} (f : A → ℕ) (members : ℕ → List A) where
   -- buckets put in one after the other
   unfoldable pub put_in : List ℕ → List A → List A
   put_in [] m = m
-  put_in (i ∷ more) m = put_in more (insertAll f (members i) m)
+  put_in (i ∷ more) m = put_in more (insert_all f (members i) m)
 
-  pub put-in-last : (is : List ℕ) (i : ℕ) (m : List A) → put_in (is ++ (i ∷ [])) m ≡ insertAll f (members i) (put_in is m)
+  pub put-in-last : (is : List ℕ) (i : ℕ) (m : List A) → put_in (is ++ (i ∷ [])) m ≡ insert_all f (members i) (put_in is m)
   unfolding put_in
   put-in-last [] i m = refl
-  put-in-last (j ∷ is) i m = put-in-last is i (insertAll f (members j) m)
+  put-in-last (j ∷ is) i m = put-in-last is i (insert_all f (members j) m)
 
-  abbrev sortedIn : ℕ → List A
-  sortedIn i = sortBy f (members i)
+  abbrev sorted_in : ℕ → List A
+  sorted_in i = sort_by f (members i)
 
   abbrev Before : ℕ → ℕ → Type 0
   Before i j = All (λ a. All (λ b. f a < f b) (members j)) (members i)
 
   -- each member of the buckets, from each of l
-  each_of : (R : A → A → Type 0) (l : List A) (is : List ℕ) → All (λ i. All (λ a. All (R a) (members i)) l) is → All (λ a. All (R a) (flat_map sortedIn is)) l
+  each_of : (R : A → A → Type 0) (l : List A) (is : List ℕ) → All (λ i. All (λ a. All (R a) (members i)) l) is → All (λ a. All (R a) (flat_map sorted_in is)) l
   unfolding flat_map
   each_of R l [] h = All-every (λ a. Unit {0}) (λ a. tt) l
   each_of R l (i ∷ is) h =
-      All-imp (λ a. All (R a) (members i) × All (R a) (flat_map sortedIn is)) (λ a. All (R a) (sortedIn i ++ flat_map sortedIn is))
-      (λ a p. All-append (R a) (sortedIn i) (flat_map sortedIn is) (All-sort f (R a) (members i) p.0) p.1)
-      l (All-and (λ a. All (R a) (members i)) (λ a. All (R a) (flat_map sortedIn is)) l h.0 (each_of R l is h.1))
+      All-imp (λ a. All (R a) (members i) × All (R a) (flat_map sorted_in is)) (λ a. All (R a) (sorted_in i ++ flat_map sorted_in is))
+      (λ a p. All-append (R a) (sorted_in i) (flat_map sorted_in is) (All-sort f (R a) (members i) p.0) p.1)
+      l (All-and (λ a. All (R a) (members i)) (λ a. All (R a) (flat_map sorted_in is)) l h.0 (each_of R l is h.1))
 
-  ahead : (i : ℕ) (is : List ℕ) → All (Before i) is → All (λ a. All (λ b. f a < f b) (flat_map sortedIn is)) (members i)
+  ahead : (i : ℕ) (is : List ℕ) → All (Before i) is → All (λ a. All (λ b. f a < f b) (flat_map sorted_in is)) (members i)
   ahead i is h = each_of (λ a b. f a < f b) (members i) is h
 
-  behind : (i : ℕ) (is : List ℕ) → All (λ j. Before j i) is → All (λ a. All (λ b. f b < f a) (flat_map sortedIn is)) (members i)
+  behind : (i : ℕ) (is : List ℕ) → All (λ j. Before j i) is → All (λ a. All (λ b. f b < f a) (flat_map sorted_in is)) (members i)
   behind i is h =
       each_of (λ a b. f b < f a) (members i) is
       (All-imp (λ j. Before j i) (λ j. All (λ a. All (λ b. f b < f a) (members j)) (members i)) (λ j. All_swap (λ a b. f a < f b) (members j) (members i)) is h)
 
   -- a bucket between others
   bucket-between : (i : ℕ) (is js : List ℕ) → All (λ j. Before j i) is → All (Before i) js
-      → insertAll f (members i) (flat_map sortedIn (is ++ js)) ≡ flat_map sortedIn (is ++ i ∷ js)
+      → insert_all f (members i) (flat_map sorted_in (is ++ js)) ≡ flat_map sorted_in (is ++ i ∷ js)
   unfolding flat_map
   bucket-between i is js h k =
-      ap (insertAll f (members i)) (flat_map_append sortedIn is js)
-      ∙ insert-between f (members i) (flat_map sortedIn is) (flat_map sortedIn js) (behind i is h) (ahead i js k)
-      ∙ sym (flat_map_append sortedIn is (i ∷ js))
+      ap (insert_all f (members i)) (flat_map_append sorted_in is js)
+      ∙ insert-between f (members i) (flat_map sorted_in is) (flat_map sorted_in js) (behind i is h) (ahead i js k)
+      ∙ sym (flat_map_append sorted_in is (i ∷ js))
 
-  sort-rising : (is : List ℕ) → Rising Before is → sortBy f (flat_map members is) ≡ flat_map sortedIn is
-  unfolding flat_map insertAll
+  sort-rising : (is : List ℕ) → Rising Before is → sort_by f (flat_map members is) ≡ flat_map sorted_in is
+  unfolding flat_map insert_all
   sort-rising [] r = refl
   sort-rising (i ∷ is) r =
       insert-append f (members i) (flat_map members is) []
-      ∙ ap (insertAll f (members i)) (sort-rising is r.1)
+      ∙ ap (insert_all f (members i)) (sort-rising is r.1)
       ∙ bucket-between i [] is tt r.0
 
   -- behind those put in already
-  put-rising : (is done : List ℕ) → Rising Before (done ++ is) → put_in is (flat_map sortedIn done) ≡ flat_map sortedIn (done ++ is)
+  put-rising : (is done : List ℕ) → Rising Before (done ++ is) → put_in is (flat_map sorted_in done) ≡ flat_map sorted_in (done ++ is)
   unfolding put_in
-  put-rising [] done r = ap (flat_map sortedIn) (sym (append-nil done))
+  put-rising [] done r = ap (flat_map sorted_in) (sym (append-nil done))
   put-rising (i ∷ is) done r =
       let shift : done ++ (i ∷ []) ++ is ≡ done ++ i ∷ is = append_snoc done i is in
-      let more : insertAll f (members i) (flat_map sortedIn done) ≡ flat_map sortedIn (done ++ (i ∷ [])) =
-      ap (λ l. insertAll f (members i) (flat_map sortedIn l)) (sym (append-nil done)) ∙ bucket-between i done [] (Rising_ahead Before i done is r) tt in
-      ap (put_in is) more ∙ put-rising is (done ++ (i ∷ [])) (rw shift r) ∙ ap (flat_map sortedIn) shift
+      let more : insert_all f (members i) (flat_map sorted_in done) ≡ flat_map sorted_in (done ++ (i ∷ [])) =
+      ap (λ l. insert_all f (members i) (flat_map sorted_in l)) (sym (append-nil done)) ∙ bucket-between i done [] (Rising_ahead Before i done is r) tt in
+      ap (put_in is) more ∙ put-rising is (done ++ (i ∷ [])) (rw shift r) ∙ ap (flat_map sorted_in) shift
 
   -- ---- the order over the numbers from lowest to 255, by the digits of x
 
   module _ (x lowest : ℕ)
       (set_first : (k j : ℕ) → lowest ≤ j → j < k → k < 256 → is_set k x ≡ true → Before k j)
       (clear-last : (k j : ℕ) → lowest ≤ j → j < k → k < 256 → is_set k x ≡ false → Before j k) where
-    ahead_of : (i n : ℕ) → lowest ≤ i → suc i + n ≤ 256 → All (λ k. Before k i) (setOnes x (suc i) n)
+    ahead_of : (i n : ℕ) → lowest ≤ i → suc i + n ≤ 256 → All (λ k. Before k i) (set_ones x (suc i) n)
     ahead_of i n h most =
         All-imp (λ k. (is_set k x ≡ true) × Within (suc i) n k) (λ k. Before k i) (λ k w. set_first k i h (omega arith) (omega arith) w.0)
-        (setOnes x (suc i) n) (within-set x (suc i) n)
+        (set_ones x (suc i) n) (within-set x (suc i) n)
 
-    behind-of : (i n : ℕ) → lowest ≤ i → suc i + n ≤ 256 → All (Before i) (clearOnes x (suc i) n)
+    behind-of : (i n : ℕ) → lowest ≤ i → suc i + n ≤ 256 → All (Before i) (clear_ones x (suc i) n)
     behind-of i n h most =
         All-imp (λ k. (not (is_set k x) ≡ true) × Within (suc i) n k) (Before i) (λ k w. clear-last k i h (omega arith) (omega arith) (not-true (is_set k x) w.0))
-        (clearOnes x (suc i) n) (within-clear x (suc i) n)
+        (clear_ones x (suc i) n) (within-clear x (suc i) n)
 
-    order-rising : (n i : ℕ) → lowest ≤ i → i + n ≤ 256 → Rising Before (orderFrom x i n)
+    order-rising : (n i : ℕ) → lowest ≤ i → i + n ≤ 256 → Rising Before (order_from x i n)
     unfolding rising falling
     order-rising zero i h most = tt
     order-rising (suc n) i h most =
         rw (order-more x i n)
-        (Rising-between Before i (setOnes x (suc i) n) (clearOnes x (suc i) n) (ahead_of i n h (omega arith)) (behind-of i n h (omega arith))
+        (Rising-between Before i (set_ones x (suc i) n) (clear_ones x (suc i) n) (ahead_of i n h (omega arith)) (behind-of i n h (omega arith))
         (order-rising n (suc i) (omega arith) (omega arith)))
 
-    order-sorted : (n i : ℕ) → lowest ≤ i → i + n ≤ 256 → sortBy f (flat_map members (rising i n)) ≡ flat_map sortedIn (orderFrom x i n)
-    unfolding rising falling flat_map insertAll
+    order-sorted : (n i : ℕ) → lowest ≤ i → i + n ≤ 256 → sort_by f (flat_map members (rising i n)) ≡ flat_map sorted_in (order_from x i n)
+    unfolding rising falling flat_map insert_all
     order-sorted zero i h most = refl
     order-sorted (suc n) i h most =
         insert-append f (members i) (flat_map members (rising (suc i) n)) []
-        ∙ ap (insertAll f (members i)) (order-sorted n (suc i) (omega arith) (omega arith))
-        ∙ bucket-between i (setOnes x (suc i) n) (clearOnes x (suc i) n) (ahead_of i n h (omega arith)) (behind-of i n h (omega arith))
-        ∙ ap (flat_map sortedIn) (sym (order-more x i n))
+        ∙ ap (insert_all f (members i)) (order-sorted n (suc i) (omega arith) (omega arith))
+        ∙ bucket-between i (set_ones x (suc i) n) (clear_ones x (suc i) n) (ahead_of i n h (omega arith)) (behind-of i n h (omega arith))
+        ∙ ap (flat_map sorted_in) (sym (order-more x i n))
 
 -- ---- distances
 
@@ -225,18 +225,18 @@ module _ (own target : Bytes) (count : ℕ) (few : count ≤ 256) {A : Type 0} (
       (rw (order_is x count) (order-rising f members x (256 - count) set_first clear-last count (256 - count) (omega arith) (omega arith)))
 
   -- the first sixteen of the buckets taken, one sorted after the other
-  taken-front : take 16 (flat_map (sortedIn f members) taken) ≡ take 16 (sortBy f (flat_map members (rising (256 - count) count)))
+  taken-front : take 16 (flat_map (sorted_in f members) taken) ≡ take 16 (sort_by f (flat_map members (rising (256 - count) count)))
   taken-front =
-      front (λ i. length (members i)) (sortedIn f members) (λ i. length-sort f (members i)) (taking_order x count) 0
-      ∙ ap (λ l. take 16 (flat_map (sortedIn f members) l)) (order_is x count)
+      front (λ i. length (members i)) (sorted_in f members) (λ i. length-sort f (members i)) (taking_order x count) 0
+      ∙ ap (λ l. take 16 (flat_map (sorted_in f members) l)) (order_is x count)
       ∙ ap (take 16) (sym (order-sorted f members x (256 - count) set_first clear-last count (256 - count) (omega arith) (omega arith)))
 
   -- what a call holds that puts the buckets in one after the other
   pub chosen-in-order : take 16 (put_in f members (taken_from (λ i. length (members i)) 0 (taking_order (distance own target) count)) [])
-      ≡ take 16 (sortBy f (flat_map members (rising (256 - count) count)))
+      ≡ take 16 (sort_by f (flat_map members (rising (256 - count) count)))
   unfolding flat_map
   chosen-in-order = ap (take 16) (put-rising f members taken [] taken-rising) ∙ taken-front
 
-  pub sorted-taken : take 16 (sortBy f (flat_map members (taken_from (λ i. length (members i)) 0 (taking_order (distance own target) count))))
-      ≡ take 16 (sortBy f (flat_map members (rising (256 - count) count)))
+  pub sorted-taken : take 16 (sort_by f (flat_map members (taken_from (λ i. length (members i)) 0 (taking_order (distance own target) count))))
+      ≡ take 16 (sort_by f (flat_map members (rising (256 - count) count)))
   sorted-taken = ap (take 16) (sort-rising f members taken taken-rising) ∙ taken-front

@@ -67,46 +67,46 @@ within-falling lowest (suc n) =
 -- ---- the order
 
 module _ (x : ℕ) where
-  abbrev pub setOnes : ℕ → ℕ → List ℕ
-  setOnes lowest n = select (λ i. is_set i x) (falling lowest n)
+  abbrev pub set_ones : ℕ → ℕ → List ℕ
+  set_ones lowest n = select (λ i. is_set i x) (falling lowest n)
 
-  abbrev pub clearOnes : ℕ → ℕ → List ℕ
-  clearOnes lowest n = select (λ i. not (is_set i x)) (rising lowest n)
+  abbrev pub clear_ones : ℕ → ℕ → List ℕ
+  clear_ones lowest n = select (λ i. not (is_set i x)) (rising lowest n)
 
-  abbrev pub orderFrom : ℕ → ℕ → List ℕ
-  orderFrom lowest n = setOnes lowest n ++ clearOnes lowest n
+  abbrev pub order_from : ℕ → ℕ → List ℕ
+  order_from lowest n = set_ones lowest n ++ clear_ones lowest n
 
-  pub order_is : (count : ℕ) → taking_order x count ≡ orderFrom (256 - count) count
+  pub order_is : (count : ℕ) → taking_order x count ≡ order_from (256 - count) count
   unfolding taking_order
   order_is count = refl
 
   -- a set one is the last of the set ones, a clear one the first of the clear ones
   pub more-set : (lowest n : ℕ) → is_set lowest x ≡ true
-      → (setOnes lowest (suc n) ≡ setOnes (suc lowest) n ++ (lowest ∷ [])) × (clearOnes lowest (suc n) ≡ clearOnes (suc lowest) n)
+      → (set_ones lowest (suc n) ≡ set_ones (suc lowest) n ++ (lowest ∷ [])) × (clear_ones lowest (suc n) ≡ clear_ones (suc lowest) n)
   unfolding rising
   more-set lowest n e =
       (rw (falling_last lowest n, select-append (λ i. is_set i x) (falling (suc lowest) n) (lowest ∷ []), e) refl, rw e refl)
 
   pub more-clear : (lowest n : ℕ) → is_set lowest x ≡ false
-      → (setOnes lowest (suc n) ≡ setOnes (suc lowest) n) × (clearOnes lowest (suc n) ≡ lowest ∷ clearOnes (suc lowest) n)
+      → (set_ones lowest (suc n) ≡ set_ones (suc lowest) n) × (clear_ones lowest (suc n) ≡ lowest ∷ clear_ones (suc lowest) n)
   unfolding rising
   more-clear lowest n e =
-      (rw (falling_last lowest n, select-append (λ i. is_set i x) (falling (suc lowest) n) (lowest ∷ []), e, append-nil (setOnes (suc lowest) n)) refl, rw e refl)
+      (rw (falling_last lowest n, select-append (λ i. is_set i x) (falling (suc lowest) n) (lowest ∷ []), e, append-nil (set_ones (suc lowest) n)) refl, rw e refl)
 
-  pub order-more : (lowest n : ℕ) → orderFrom lowest (suc n) ≡ setOnes (suc lowest) n ++ lowest ∷ clearOnes (suc lowest) n
+  pub order-more : (lowest n : ℕ) → order_from lowest (suc n) ≡ set_ones (suc lowest) n ++ lowest ∷ clear_ones (suc lowest) n
   order-more lowest n =
       by_test (is_set lowest x)
-      (λ e. let m = more-set lowest n e in rw (m.0, m.1) (append_snoc (setOnes (suc lowest) n) lowest (clearOnes (suc lowest) n)))
+      (λ e. let m = more-set lowest n e in rw (m.0, m.1) (append_snoc (set_ones (suc lowest) n) lowest (clear_ones (suc lowest) n)))
       (λ e. let m = more-clear lowest n e in rw (m.0, m.1) refl)
 
-  pub within-set : (lowest n : ℕ) → All (λ i. (is_set i x ≡ true) × Within lowest n i) (setOnes lowest n)
+  pub within-set : (lowest n : ℕ) → All (λ i. (is_set i x ≡ true) × Within lowest n i) (set_ones lowest n)
   within-set lowest n = All-selected (Within lowest n) (λ i. is_set i x) (falling lowest n) (within-falling lowest n)
 
-  pub within-clear : (lowest n : ℕ) → All (λ i. (not (is_set i x) ≡ true) × Within lowest n i) (clearOnes lowest n)
+  pub within-clear : (lowest n : ℕ) → All (λ i. (not (is_set i x) ≡ true) × Within lowest n i) (clear_ones lowest n)
   within-clear lowest n = All-selected (Within lowest n) (λ i. not (is_set i x)) (rising lowest n) (within-rising lowest n)
 
-  pub within-order : (lowest n : ℕ) → All (Within lowest n) (orderFrom lowest n)
+  pub within-order : (lowest n : ℕ) → All (Within lowest n) (order_from lowest n)
   within-order lowest n =
-      All-append (Within lowest n) (setOnes lowest n) (clearOnes lowest n)
+      All-append (Within lowest n) (set_ones lowest n) (clear_ones lowest n)
       (All-select (Within lowest n) (λ i. is_set i x) (falling lowest n) (within-falling lowest n))
       (All-select (Within lowest n) (λ i. not (is_set i x)) (rising lowest n) (within-rising lowest n))

@@ -71,19 +71,19 @@ module _ (seated : ℕ → ℕ) where
 
 module _ (seated : ℕ → ℕ) (order : List ℕ) where
   -- those taken of the first k of the order
-  abbrev pub takenUpTo : ℕ → List ℕ
-  takenUpTo k = taken_from seated 0 (take k order)
+  abbrev pub taken_up_to : ℕ → List ℕ
+  taken_up_to k = taken_from seated 0 (take k order)
 
-  pub taken_start : takenUpTo 0 ≡ []
+  pub taken_start : taken_up_to 0 ≡ []
   unfolding taken_from
   taken_start = refl
 
-  pub taken-end : takenUpTo (length order) ≡ taken_from seated 0 order
+  pub taken-end : taken_up_to (length order) ≡ taken_from seated 0 order
   taken-end = ap (taken_from seated 0) (take-length order)
 
   -- fewer than sixteen are gathered: the next bucket is taken
-  pub turn_more : (k : ℕ) → k < length order → total seated (takenUpTo k) < 16 → takenUpTo (suc k) ≡ takenUpTo k ++ (get_or order k 0 ∷ [])
+  pub turn_more : (k : ℕ) → k < length order → total seated (taken_up_to k) < 16 → taken_up_to (suc k) ≡ taken_up_to k ++ (get_or order k 0 ∷ [])
   turn_more k h few = more-from seated order k 0 h (omega arith)
 
-  pub turn-full : (k : ℕ) → k < length order → 16 ≤ total seated (takenUpTo k) → takenUpTo (suc k) ≡ takenUpTo k
+  pub turn-full : (k : ℕ) → k < length order → 16 ≤ total seated (taken_up_to k) → taken_up_to (suc k) ≡ taken_up_to k
   turn-full k h full = full_from seated order k 0 (omega arith) h (omega arith)

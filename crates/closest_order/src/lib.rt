@@ -1,4 +1,6 @@
 // The order in which a closest call takes the buckets.
+#![tactic(auto)]
+
 ghost use Rattle.std.specs.Prelude.{◌≡◌, ◌-◌, ◌/◌, ◌≤◌, ◌<◌, take};
 ghost use Rattle.distance.specs.Distance.{distance};
 ghost use Rattle.closest_order.specs.Taking.{is_set, taking_order};

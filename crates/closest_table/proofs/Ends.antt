@@ -16,7 +16,7 @@ use Rattle.entry.specs.declared.Entry.{Entry}
 use Rattle.bucket_model.specs.Contents.{Contents}
 use Rattle.bucket_model.specs.Sound.{sound}
 use Rattle.closest_nearest.specs.declared.Nearest.{Nearest}
-use Rattle.closest_nearest.specs.Sort.{sortBy}
+use Rattle.closest_nearest.specs.Sort.{sort_by}
 use Rattle.closest_nearest.specs.Nearest.{farness, holding}
 use Rattle.closest_order.specs.Taking.{rising, taken_from}
 use Rattle.closest_order.specs.Taken.{entries_in, taken_in, distances}
@@ -30,7 +30,7 @@ use Rattle.table_model.proofs.Sound.{below_all, below_false}
 use Rattle.closest_table.specs.declared.Chosen.{Chosen}
 use Rattle.closest_table.specs.Closest.{in_home, candidates_of, candidates_from, closest, nothing, closest_in}
 use Rattle.closest_table.proofs.Nearest.{number_of_far}
-use Rattle.closest_table.proofs.Walk.{length_candidates, few, size, kept, slot_of, members, seated, order, isSound, Turned}
+use Rattle.closest_table.proofs.Walk.{length_candidates, few, size, kept, slot_of, members, seated, order, is_sound, Turned}
 
 -- the entries of a bucket that is sound are at home there, and so are its candidates
 module _ (own target : Bytes) (long : length target ≡ 32) (bytes : IsBytes target) (i : ℕ) where
@@ -60,7 +60,7 @@ module _ (s target : Bytes) where
   no_header h e = e ∙ simp h
 
   module _ (header : header_sound s ≡ true) where
-    pub one-unsound : (k : ℕ) → k < count_of s → isSound s target (get_or (order s target) k 0) ≡ false → {r : Chosen} → r ≡ nothing → r ≡ closest_in s target
+    pub one-unsound : (k : ℕ) → k < count_of s → is_sound s target (get_or (order s target) k 0) ≡ false → {r : Chosen} → r ≡ nothing → r ≡ closest_in s target
     unfolding closest_in table_sound buckets_sound
     one-unsound k h f e =
         let i : ℕ = get_or (order s target) k 0 in
@@ -71,9 +71,9 @@ module _ (s target : Bytes) where
       in_order : take (count_of s) (order s target) ≡ order s target
       in_order = take_all (count_of s) (order s target) (omega (arith, size s target header))
 
-      all_tested : (i : ℕ) → 256 - count_of s ≤ i → i < 256 → isSound s target i ≡ true
+      all_tested : (i : ℕ) → 256 - count_of s ≤ i → i < 256 → is_sound s target i ≡ true
       all_tested =
-          all-kept (distance (own_of s) target) (count_of s) (few s target header) (isSound s target)
+          all-kept (distance (own_of s) target) (count_of s) (few s target header) (is_sound s target)
           (rw in_order at t.all_sound)
 
       each-sound : (slot : ℕ) → slot < count_of s → bucket_sound s slot ≡ true
@@ -102,7 +102,7 @@ module _ (s target : Bytes) where
           t.nearest
           ∙ ap (λ l. holding (take 16 (put_in farness (members s target) (taken_from (seated s target) 0 l) []))) in_order
           ∙ ap holding (chosen-in-order (own_of s) target (count_of s) (few s target header) farness (members s target) homes)
-          ∙ ap (λ l. holding (take 16 (sortBy farness l))) by-slot
+          ∙ ap (λ l. holding (take 16 (sort_by farness l))) by-slot
 
       counted : n ≡ distances s target
       unfolding distances taken_in

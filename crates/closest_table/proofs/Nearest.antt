@@ -15,7 +15,7 @@ use Rattle.entry.specs.Layout.{no_entry}
 use Rattle.bucket_model.specs.Contents.{Contents, no_contents}
 use Rattle.closest_distance.proofs.Bytes.{number-far}
 use Rattle.closest_nearest.specs.declared.Near.{Near}
-use Rattle.closest_nearest.specs.Sort.{sortBy}
+use Rattle.closest_nearest.specs.Sort.{sort_by}
 use Rattle.closest_nearest.specs.Nearest.{farness}
 use Rattle.closest_nearest.proofs.Sort.{All-take, All-sort, map-take, sort-map}
 use Rattle.closest_table.specs.Closest.{far_of, candidates_of, candidates_from, closest}
@@ -105,18 +105,18 @@ module _ (target : Bytes) (bs : List Contents) where
   unfolding closest
   closest-name =
       let all : List Near = candidates_from target 0 bs in
-      All-take (Names target bs) 16 (sortBy farness all) (All-sort farness (Names target bs) all candidates)
+      All-take (Names target bs) 16 (sort_by farness all) (All-sort farness (Names target bs) all candidates)
 
   -- these entries, where the target is a hash
   pub closest-entries : length target ≡ 32 → IsBytes target
-      → map (entry_of bs) (closest target bs) ≡ take 16 (sortBy (λ e. distance target (keccak256 e.key)) (flat_map (λ b. b.entries) bs))
+      → map (entry_of bs) (closest target bs) ≡ take 16 (sort_by (λ e. distance target (keccak256 e.key)) (flat_map (λ b. b.entries) bs))
   unfolding closest
   closest-entries size bytes =
       let far : Entry → ℕ = λ e. distance target (keccak256 e.key) in
       let all : List Near = candidates_from target 0 bs in
       let same : (n : Near) → Names target bs n → farness n ≡ far (entry_of bs n) =
       λ n h. ap number h.its_far ∙ number_of_far target size bytes (entry_of bs n) in
-      map-take (entry_of bs) 16 (sortBy farness all)
+      map-take (entry_of bs) 16 (sort_by farness all)
       ∙ ap (take 16)
       (sort-map farness far (entry_of bs) all (All-imp (Names target bs) (λ n. farness n ≡ far (entry_of bs n)) same all candidates)
-      ∙ ap (sortBy far) (entries_from 0 bs (all_rest no_contents bs)))
+      ∙ ap (sort_by far) (entries_from 0 bs (all_rest no_contents bs)))

@@ -16,13 +16,13 @@ use Rattle.entry.specs.declared.Entry.{Entry}
 use Rattle.bucket_model.specs.Sound.{sound}
 use Rattle.closest_nearest.specs.declared.Near.{Near}
 use Rattle.closest_nearest.specs.declared.Nearest.{Nearest}
-use Rattle.closest_nearest.specs.Sort.{insertAll}
+use Rattle.closest_nearest.specs.Sort.{insert_all}
 use Rattle.closest_nearest.specs.Nearest.{farness, holding, held, Ordered}
 use Rattle.closest_nearest.proofs.Sort.{Sorted, sorted_all, take-insert-all, Rising-take}
 use Rattle.closest_nearest.proofs.Held.{held-holding, ordered_holding}
 use Rattle.closest_order.specs.Taking.{taking_order}
 use Rattle.closest_order.specs.Taken.{entries_in}
-use Rattle.closest_order.proofs.Turns.{total, total_last, takenUpTo, taken_start, turn_more, turn-full}
+use Rattle.closest_order.proofs.Turns.{total, total_last, taken_up_to, taken_start, turn_more, turn-full}
 use Rattle.closest_order.proofs.Kept.{length-order, each-kept}
 use Rattle.closest_order.proofs.InOrder.{put_in, put-in-last}
 use Rattle.table_model.specs.Layout.{own_of, clock_of, count_of, number_at, bucket_bytes, bucket_at, header_sound}
@@ -41,7 +41,7 @@ length_candidates target slot i (e ∷ es) = ap suc (length_candidates target sl
 put_sorted : (members : ℕ → List Near) (is : List ℕ) (m : List Near) → Sorted farness m → Sorted farness (put_in farness members is m)
 unfolding put_in
 put_sorted members [] m r = r
-put_sorted members (i ∷ is) m r = put_sorted members is (insertAll farness (members i) m) (sorted_all farness (members i) m r)
+put_sorted members (i ∷ is) m r = put_sorted members is (insert_all farness (members i) m) (sorted_all farness (members i) m r)
 
 module _ (s target : Bytes) where
   -- where the bucket with a number stands, its candidates, and how many they are
@@ -59,14 +59,14 @@ module _ (s target : Bytes) where
 
   -- those taken in the first k turns
   abbrev pub taken : ℕ → List ℕ
-  taken k = takenUpTo seated order k
+  taken k = taken_up_to seated order k
 
-  abbrev pub isSound : ℕ → Bool
-  isSound i = bucket_sound s (slot_of i)
+  abbrev pub is_sound : ℕ → Bool
+  is_sound i = bucket_sound s (slot_of i)
 
   -- what is held after k turns
   pub record Turned (k : ℕ) (best : Nearest) (n : ℕ) : Type 0 where
-    pub all_sound : all isSound (take k order) ≡ true
+    pub all_sound : all is_sound (take k order) ≡ true
     pub nearest : best ≡ holding (take 16 (put_in farness members (taken k) []))
     pub count : n ≡ total seated (taken k)
 
@@ -116,7 +116,7 @@ module _ (s target : Bytes) where
       pub slot_is : get_or found k 0 - (256 - count) ≡ slot_of (get_or order k 0)
       slot_is = cc (number_is)
 
-      pub test-is : {r : Bool} → r ≡ sound (home own (get_or found k 0)) clock (bucket_bytes s (get_or found k 0 - (256 - count))) → r ≡ isSound (get_or order k 0)
+      pub test-is : {r : Bool} → r ≡ sound (home own (get_or found k 0)) clock (bucket_bytes s (get_or found k 0 - (256 - count))) → r ≡ is_sound (get_or order k 0)
       test-is {r} e =
           let place : number ≡ number_at (count_of s) (slot_of (get_or order k 0)) = omega (arith, number_is, is_kept.0) in
           e ∙ cc (place, slot_is)
@@ -129,13 +129,13 @@ module _ (s target : Bytes) where
       within : k < length order
       within = omega (arith, size)
 
-      more-sound : isSound i ≡ true → all isSound (take (suc k) order) ≡ true
+      more-sound : is_sound i ≡ true → all is_sound (take (suc k) order) ≡ true
       more-sound e =
-          ap (all isSound) (take-suc order k 0 within)
-          ∙ all_append isSound (take k order) (i ∷ [])
+          ap (all is_sound) (take-suc order k 0 within)
+          ∙ all_append is_sound (take k order) (i ∷ [])
           ∙ rw (t.all_sound, e) refl
 
-      pub turn : {next : Nearest} {m slot : ℕ} → isSound i ≡ true → slot ≡ slot_of i
+      pub turn : {next : Nearest} {m slot : ℕ} → is_sound i ≡ true → slot ≡ slot_of i
           → (next ≡ holding (nearest_after n target slot (bucket_at s slot).entries (held best))) × (m ≡ distances_after n (bucket_at s slot).entries)
           → Turned (suc k) next m
       unfolding nearest_after distances_after
@@ -158,7 +158,7 @@ module _ (s target : Bytes) where
             all_sound = more-sound e;
             nearest =
                 rw fewer at en
-                ∙ ap (λ b. holding (take 16 (insertAll farness (members i) b))) old
+                ∙ ap (λ b. holding (take 16 (insert_all farness (members i) b))) old
                 ∙ ap holding (take-insert-all farness 16 (members i) l)
                 ∙ ap (λ b. holding (take 16 b)) (sym (put-in-last farness members (taken k) i []))
                 ∙ ap (λ is. holding (take 16 (put_in farness members is []))) (sym next_taken);

@@ -6,7 +6,7 @@ use Rattle.distance.specs.Distance.{distance, home}
 use Rattle.entry.specs.declared.Entry.{Entry}
 use Rattle.bucket_model.specs.Contents.{Contents}
 use Rattle.closest_nearest.specs.declared.Near.{Near}
-use Rattle.closest_nearest.specs.Sort.{sortBy}
+use Rattle.closest_nearest.specs.Sort.{sort_by}
 use Rattle.closest_nearest.specs.Nearest.{farness, holding}
 use Rattle.closest_order.specs.Taken.{distances}
 use Rattle.table_model.specs.Layout.{buckets_of}
@@ -33,7 +33,7 @@ candidates_from target slot (b ∷ bs) = candidates_of target slot 0 b.entries +
 
 -- "the min(16, seated) seated nodes nearest to the target, nearest first; equal distances by seat, head first", for the target's hash
 unfoldable pub closest : Bytes → List Contents → List Near
-closest target buckets = take 16 (sortBy farness (candidates_from target 0 buckets))
+closest target buckets = take 16 (sort_by farness (candidates_from target 0 buckets))
 
 abbrev pub pick : Bool → Chosen → Chosen → Chosen
 pick true a b = a

@@ -1,4 +1,6 @@
 // The entries nearest to a target, of a table in lent bytes.
+#![tactic(auto)]
+
 ghost use Rattle.std.specs.Prelude.{◌≡◌, true, ◌+◌, ◌*◌, ◌≤◌, length};
 ghost use Rattle.distance.specs.Distance.{home};
 ghost use Rattle.lists.specs.Lists.{all};
@@ -15,7 +17,7 @@ use entry::Entry;
 use node::MonotonicMillis;
 
 // The nearest entries, or that the table isn't sound; and how many distances to the target were worked out.
-#[derive(Drop)]
+#[derive(Clone, Copy)]
 pub struct Chosen {
     pub sound: bool,
     pub nearest: Nearest,
@@ -40,7 +42,7 @@ fn all_home(bytes: &[u8], at: usize, n: usize, own: [u8; 32], number: usize) -> 
 
 // What came of a bucket's entries: whether each key is in its own bucket, the nearest, with them put in, and how many distances to the target
 // that took.
-#[derive(Drop)]
+#[derive(Clone, Copy)]
 pub struct Gathered {
     pub home: bool,
     pub nearest: Nearest,

@@ -18,7 +18,7 @@ use Rattle.table_model.specs.Sound.{table_sound}
 use Rattle.table_model.specs.Facts.{SoundBucket, SoundTable}
 use Rattle.table_model.proofs.Records.{length-tabulate, get_d_tabulate}
 use Rattle.table_model.proofs.Sound.{sound_is_table}
-use Rattle.closest_nearest.specs.Sort.{sortBy}
+use Rattle.closest_nearest.specs.Sort.{sort_by}
 use Rattle.closest_nodes.specs.Listing.{entries_of, distance_to, closest_nodes}
 use Rattle.closest_order.specs.Taking.{rising, taking_order, taken_from}
 use Rattle.closest_order.specs.Taken.{entries_in, taken_in, gathered, distances}
@@ -72,10 +72,10 @@ module _ (s : Bytes) (bytes : IsBytes s) (h : table_sound s ≡ true) where
     abbrev seated : ℕ → ℕ
     seated i = length (entries_in s i)
 
-    list_stays : closest_nodes s target ≡ map node_of (take 16 (sortBy (distance_to target) (gathered s (keccak256 target))))
+    list_stays : closest_nodes s target ≡ map node_of (take 16 (sort_by (distance_to target) (gathered s (keccak256 target))))
     unfolding closest_nodes taken_in
     list_stays =
-        ap (λ l. map node_of (take 16 (sortBy (distance_to target) l))) all-entries
+        ap (λ l. map node_of (take 16 (sort_by (distance_to target) l))) all-entries
         ∙ ap (map node_of) (sym (sorted-taken (own_of s) (keccak256 target) (count_of s) few (distance_to target) (entries_in s) homes))
 
     counted : distances s (keccak256 target) ≡ total seated (taken_from seated 0 (taking_order x (count_of s)))

@@ -7,7 +7,7 @@ use Rattle.distance.specs.Distance.{distance}
 use Rattle.entry.specs.Nodes.{node_of}
 use Rattle.table_model.specs.Layout.{own_of, count_of}
 use Rattle.table_model.specs.Sound.{table_sound}
-use Rattle.closest_nearest.specs.Sort.{sortBy}
+use Rattle.closest_nearest.specs.Sort.{sort_by}
 use Rattle.closest_nodes.specs.Listing.{distance_to, closest_nodes}
 use Rattle.closest_order.specs.Taking.{taking_order}
 use Rattle.closest_order.specs.Taken.{taken_in, gathered, distances}
@@ -18,7 +18,7 @@ order_for s target = taking_order (distance (own_of s) (keccak256 target)) (coun
 
 pub record TakenKeeps (s target : Bytes) : Type 0 where
   -- "The list must stay what it is today": that of all entries, and the same of the entries gathered alone
-  pub list_stays : closest_nodes s target ≡ map node_of (take 16 (sortBy (distance_to target) (gathered s (keccak256 target))))
+  pub list_stays : closest_nodes s target ≡ map node_of (take 16 (sort_by (distance_to target) (gathered s (keccak256 target))))
   -- "never more than 31"
   pub at_most_31 : distances s (keccak256 target) ≤ 31
   -- sixteen are gathered, or all kept buckets are taken

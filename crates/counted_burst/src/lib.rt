@@ -1,5 +1,7 @@
 // The burst of the public library: the datagrams are handed over one after the other on the lent table, and each one's number is counted in
 // the lent counters.
+#![tactic(auto)]
+
 ghost use Rattle.std.specs.Prelude.{◌≡◌, length};
 ghost use Rattle.counters.specs.History.{counted};
 ghost use Rattle.call_burst_lists.specs.Lists.{burst_of};

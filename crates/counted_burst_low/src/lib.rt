@@ -1,5 +1,7 @@
 // The burst of the public library with readings of 32 bits: the datagrams are handed over one after the other on the lent table, each one's reading
 // widened by the table's clock at its turn, and each one's number is counted in the lent counters. tools/walks.sh prints the proof of `burst_low`.
+#![tactic(auto)]
+
 ghost use Rattle.std.specs.Prelude.{◌≡◌, length};
 ghost use Rattle.counters.specs.History.{counted};
 ghost use Rattle.call_burst_lists.specs.Lists.{burst_of};

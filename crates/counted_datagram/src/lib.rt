@@ -1,8 +1,10 @@
 // The datagram call of the public library: it works on the lent table, counts its answer number in the lent counters, and answers.
 // tools/walks.sh prints its proof.
+#![tactic(auto)]
+
 ghost use Rattle.std.specs.Prelude.{◌≡◌};
 ghost use Rattle.call_history.specs.Model as model;
-ghost use Rattle.call_model.specs.Calls.{bytesAfter};
+ghost use Rattle.call_model.specs.Calls.{bytes_after};
 ghost use Rattle.call_model.specs.Reading.{reading};
 ghost use Rattle.call_answer.specs.Answer.{number_of};
 ghost use Rattle.call_datagram.specs.Received.{received};
@@ -24,7 +26,7 @@ pub fn datagram(
     datagram: &[u8],
 ) -> Received
     ensures value { result ≡ received table.old clock.0 unix.0 address.now port signer.now datagram.now }
-    ensures table_after { table.new ≡ bytesAfter reading table.old (model.datagram clock.0 unix.0 address.now port signer.now datagram.now) }
+    ensures table_after { table.new ≡ bytes_after reading table.old (model.datagram clock.0 unix.0 address.now port signer.now datagram.now) }
     ensures counters_after { counters.new ≡ raised counters.old (number_of result) }
 {
     let answer = call_datagram::datagram_on(table, clock, unix, address, port, signer, datagram);
@@ -35,7 +37,7 @@ pub fn datagram(
 // The same call with the counters by value, for callers inside the repository: a function that calls this needs no proof by hand.
 
 // The answer to a datagram, and the counters after it.
-#[derive(Drop)]
+#[derive(Clone, Copy)]
 pub struct Counted {
     pub received: Received,
     pub counters: Counters,
@@ -52,7 +54,7 @@ pub fn datagram_with(
     datagram: &[u8],
 ) -> Counted
     ensures received_value { result.received ≡ received table.old clock.0 unix.0 address.now port signer.now datagram.now }
-    ensures table_after { table.new ≡ bytesAfter reading table.old (model.datagram clock.0 unix.0 address.now port signer.now datagram.now) }
+    ensures table_after { table.new ≡ bytes_after reading table.old (model.datagram clock.0 unix.0 address.now port signer.now datagram.now) }
     ensures counters_value { result.counters ≡ raised counters (number_of result.received) }
 {
     let received = call_datagram::datagram_on(table, clock, unix, address, port, signer, datagram);

@@ -1,5 +1,7 @@
 // The datagram call of the public library by a reading of 32 bits: it works on the lent table, counts its answer number in the lent counters, and
 // answers. tools/walks.sh prints its proof.
+#![tactic(auto)]
+
 ghost use Rattle.std.specs.Prelude.{◌≡◌};
 ghost use Rattle.call_history.specs.Model as model;
 ghost use Rattle.call_answer.specs.Answer.{number_of};

@@ -1,8 +1,10 @@
 // The ping-sent call of the public library: it works on the lent table, counts its answer number in the lent counters, and answers.
 // tools/walks.sh prints its proof.
+#![tactic(auto)]
+
 ghost use Rattle.std.specs.Prelude.{◌≡◌};
 ghost use Rattle.call_history.specs.Model as model;
-ghost use Rattle.call_model.specs.Calls.{answerOn, bytesAfter};
+ghost use Rattle.call_model.specs.Calls.{answer_on, bytes_after};
 ghost use Rattle.call_model.specs.Reading.{reading};
 ghost use Rattle.counters.specs.Counters.{raised};
 
@@ -20,8 +22,8 @@ pub fn ping_sent(
     tcp: u16,
     hash: &[u8],
 ) -> u8
-    ensures value { result ≡ answerOn reading table.old (model.ping_sent clock.0 key.now address.now udp tcp hash.now) }
-    ensures table_after { table.new ≡ bytesAfter reading table.old (model.ping_sent clock.0 key.now address.now udp tcp hash.now) }
+    ensures value { result ≡ answer_on reading table.old (model.ping_sent clock.0 key.now address.now udp tcp hash.now) }
+    ensures table_after { table.new ≡ bytes_after reading table.old (model.ping_sent clock.0 key.now address.now udp tcp hash.now) }
     ensures counters_after { counters.new ≡ raised counters.old result }
 {
     let answer = call_ping_sent::ping_sent_on(table, clock, key, address, udp, tcp, hash);
@@ -40,8 +42,8 @@ pub fn ping_sent_with(
     tcp: u16,
     hash: &[u8],
 ) -> CountedNumber
-    ensures number_value { result.number ≡ answerOn reading table.old (model.ping_sent clock.0 key.now address.now udp tcp hash.now) }
-    ensures table_after { table.new ≡ bytesAfter reading table.old (model.ping_sent clock.0 key.now address.now udp tcp hash.now) }
+    ensures number_value { result.number ≡ answer_on reading table.old (model.ping_sent clock.0 key.now address.now udp tcp hash.now) }
+    ensures table_after { table.new ≡ bytes_after reading table.old (model.ping_sent clock.0 key.now address.now udp tcp hash.now) }
     ensures counters_value { result.counters ≡ raised counters result.number }
 {
     let number = call_ping_sent::ping_sent_on(table, clock, key, address, udp, tcp, hash);

@@ -1,8 +1,10 @@
 // The sweep call of the public library: it works on the lent table, counts its answer number in the lent counters, and answers.
 // tools/walks.sh prints its proof.
+#![tactic(auto)]
+
 ghost use Rattle.std.specs.Prelude.{◌≡◌};
 ghost use Rattle.call_history.specs.Model as model;
-ghost use Rattle.call_model.specs.Calls.{answerOn, bytesAfter};
+ghost use Rattle.call_model.specs.Calls.{answer_on, bytes_after};
 ghost use Rattle.call_model.specs.Reading.{reading};
 ghost use Rattle.counters.specs.Counters.{raised};
 
@@ -12,8 +14,8 @@ use node::MonotonicMillis;
 // Nodes that did not answer in time go, then replacements with an expired proof, and proved replacements take free entries. The answer
 // number.
 pub fn sweep(counters: &mut Counters, table: &mut [u8], clock: MonotonicMillis) -> u8
-    ensures value { result ≡ answerOn reading table.old (model.sweep clock.0) }
-    ensures table_after { table.new ≡ bytesAfter reading table.old (model.sweep clock.0) }
+    ensures value { result ≡ answer_on reading table.old (model.sweep clock.0) }
+    ensures table_after { table.new ≡ bytes_after reading table.old (model.sweep clock.0) }
     ensures counters_after { counters.new ≡ raised counters.old result }
 {
     let answer = call_sweep::sweep_on(table, clock);
@@ -23,8 +25,8 @@ pub fn sweep(counters: &mut Counters, table: &mut [u8], clock: MonotonicMillis) 
 
 // The same call with the counters by value, for callers inside the repository: a function that calls this needs no proof by hand.
 pub fn sweep_with(counters: Counters, table: &mut [u8], clock: MonotonicMillis) -> CountedNumber
-    ensures number_value { result.number ≡ answerOn reading table.old (model.sweep clock.0) }
-    ensures table_after { table.new ≡ bytesAfter reading table.old (model.sweep clock.0) }
+    ensures number_value { result.number ≡ answer_on reading table.old (model.sweep clock.0) }
+    ensures table_after { table.new ≡ bytes_after reading table.old (model.sweep clock.0) }
     ensures counters_value { result.counters ≡ raised counters result.number }
 {
     let number = call_sweep::sweep_on(table, clock);

@@ -1,5 +1,7 @@
 // The sweep call of the public library by a reading of 32 bits: it works on the lent table, counts its answer number in the lent counters, and
 // answers. tools/walks.sh prints its proof.
+#![tactic(auto)]
+
 ghost use Rattle.std.specs.Prelude.{◌≡◌};
 ghost use Rattle.call_history.specs.Model as model;
 ghost use Rattle.call_low.specs.Got.{answer_low, bytes_low};

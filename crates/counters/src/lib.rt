@@ -1,17 +1,19 @@
 // The counters: one count for each answer number, lent by the caller and counted up in place.
+#![tactic(auto)]
+
 ghost use Rattle.std.specs.Prelude.{◌≡◌};
 ghost use Rattle.counters.specs.Counters.{raised, count_of};
 ghost use Rattle.counters.specs.Counters as spec;
 
 // Document 01's tally: the calls since clearing that gave each answer number from 0 to 21.
 #[repr(C)]
-#[derive(Drop)]
+#[derive(Clone, Copy)]
 pub struct Counters {
     pub counts: [u32; 22],
 }
 
 // The answer number of a call, and the counters after it.
-#[derive(Drop)]
+#[derive(Clone, Copy)]
 pub struct CountedNumber {
     pub number: u8,
     pub counters: Counters,

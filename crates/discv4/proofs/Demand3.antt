@@ -14,8 +14,8 @@ use Rattle.table.specs.Init.{fresh_table}
 use Rattle.table.proofs.Fresh.{from-1, to-256, is-fresh}
 use Rattle.call_history.specs.Model.{Call, datagram, ping_sent, sweep, closest, unclocked}
 use Rattle.call_history.specs.Demand3.{clock_reading}
-use Rattle.call_history.specs.Chain.{IsCall, answersOn, bytesAfterAll}
-use Rattle.call_model.specs.Calls.{answerOn, bytesAfter}
+use Rattle.call_history.specs.Chain.{IsCall, answers_on, bytes_after_all}
+use Rattle.call_model.specs.Calls.{answer_on, bytes_after}
 use Rattle.call_model.specs.Reading.{reading}
 use Rattle.call_model.proofs.Demand3.{demand3_of_calls}
 use Rattle.call_model.proofs.AnyBytes.{on-any-bytes}
@@ -37,37 +37,37 @@ use Rattle.discv4.specs.Library.{answer_number, table_after, is_counted, counted
 
 -- ---- the calls' definitions are those of crate call_model
 
-pub number_same : (s : Bytes) (c : Call) → answer_number s c ≡ answerOn reading s c
+pub number_same : (s : Bytes) (c : Call) → answer_number s c ≡ answer_on reading s c
 number_same s (datagram now unix address udp key bytes) = answer-number s now (record { 0 = unix }) address udp key bytes
 number_same s (ping_sent now key address udp tcp hash) = refl
 number_same s (sweep now) = refl
 number_same s (closest target room) = refl
 number_same s (unclocked c) = refl
 
-pub bytes_same : (s : Bytes) (c : Call) → table_after s c ≡ bytesAfter reading s c
+pub bytes_same : (s : Bytes) (c : Call) → table_after s c ≡ bytes_after reading s c
 bytes_same s (datagram now unix address udp key bytes) = refl
 bytes_same s (ping_sent now key address udp tcp hash) = refl
 bytes_same s (sweep now) = refl
 bytes_same s (closest target room) = sym ((on-any-bytes reading).closest-unchanged s target room)
 bytes_same s (unclocked c) = refl
 
-numbers_same : (s : Bytes) (cs : List Call) → answersOn answer_number table_after s cs ≡ answersOn (answerOn reading) (bytesAfter reading) s cs
+numbers_same : (s : Bytes) (cs : List Call) → answers_on answer_number table_after s cs ≡ answers_on (answer_on reading) (bytes_after reading) s cs
 numbers_same s [] = refl
-numbers_same s (c ∷ cs) = rw (number_same s c, bytes_same s c) (ap (λ (ns : List ℕ). answerOn reading s c ∷ ns) (numbers_same (bytesAfter reading s c) cs))
+numbers_same s (c ∷ cs) = rw (number_same s c, bytes_same s c) (ap (λ (ns : List ℕ). answer_on reading s c ∷ ns) (numbers_same (bytes_after reading s c) cs))
 
-all_bytes_same : (s : Bytes) (cs : List Call) → bytesAfterAll answer_number table_after s cs ≡ bytesAfterAll (answerOn reading) (bytesAfter reading) s cs
+all_bytes_same : (s : Bytes) (cs : List Call) → bytes_after_all answer_number table_after s cs ≡ bytes_after_all (answer_on reading) (bytes_after reading) s cs
 all_bytes_same s [] = refl
-all_bytes_same s (c ∷ cs) = rw (bytes_same s c) (all_bytes_same (bytesAfter reading s c) cs)
+all_bytes_same s (c ∷ cs) = rw (bytes_same s c) (all_bytes_same (bytes_after reading s c) cs)
 
 -- ---- a burst is its datagrams, one call each
 
 append_answers : (s : Bytes) (cs ds : List Call)
-    → answersOn answer_number table_after s (cs ++ ds) ≡ answersOn answer_number table_after s cs ++ answersOn answer_number table_after (bytesAfterAll answer_number table_after s cs) ds
+    → answers_on answer_number table_after s (cs ++ ds) ≡ answers_on answer_number table_after s cs ++ answers_on answer_number table_after (bytes_after_all answer_number table_after s cs) ds
 append_answers s [] ds = refl
 append_answers s (c ∷ cs) ds = ap (λ (ns : List ℕ). answer_number s c ∷ ns) (append_answers (table_after s c) cs ds)
 
 append_bytes : (s : Bytes) (cs ds : List Call)
-    → bytesAfterAll answer_number table_after s (cs ++ ds) ≡ bytesAfterAll answer_number table_after (bytesAfterAll answer_number table_after s cs) ds
+    → bytes_after_all answer_number table_after s (cs ++ ds) ≡ bytes_after_all answer_number table_after (bytes_after_all answer_number table_after s cs) ds
 append_bytes s [] ds = refl
 append_bytes s (c ∷ cs) ds = append_bytes (table_after s c) cs ds
 
@@ -79,32 +79,32 @@ low_number_is s (sweep r) = refl
 low_number_is s (closest target room) = refl
 low_number_is s (unclocked c) = refl
 
-left_is : (s : Bytes) (p : PublicCall) → table_left s p ≡ bytesAfterAll answer_number table_after s (calls_made s p)
+left_is : (s : Bytes) (p : PublicCall) → table_left s p ≡ bytes_after_all answer_number table_after s (calls_made s p)
 left_is s (single c) = refl
 left_is s (burst b room) = sym (all_bytes_same s (calls_of b room))
 left_is s (low c) = sym (bytes_same s (got (clock_of s) c))
 left_is s (low_burst b room) = got_bytes s (calls_of b room) ∙ sym (all_bytes_same s (got_all s (calls_of b room)))
 
-told_is : (s : Bytes) (p : PublicCall) → numbers_told s p ≡ answersOn answer_number table_after s (calls_made s p)
+told_is : (s : Bytes) (p : PublicCall) → numbers_told s p ≡ answers_on answer_number table_after s (calls_made s p)
 told_is s (single c) = refl
 told_is s (burst b room) = sym (numbers_same s (calls_of b room))
 told_is s (low c) = ap (λ (n : ℕ). n ∷ []) (low_number_is s c ∙ sym (number_same s (got (clock_of s) c)))
 told_is s (low_burst b room) = got_numbers s (calls_of b room) ∙ sym (numbers_same s (got_all s (calls_of b room)))
 
-pub all_left : (s : Bytes) (ps : List PublicCall) → table_left_all s ps ≡ bytesAfterAll answer_number table_after s (all_made s ps)
+pub all_left : (s : Bytes) (ps : List PublicCall) → table_left_all s ps ≡ bytes_after_all answer_number table_after s (all_made s ps)
 all_left s [] = refl
 all_left s (p ∷ ps) =
     let more : List Call = all_made (table_left s p) ps in
     all_left (table_left s p) ps
-    ∙ ap (λ (t : Bytes). bytesAfterAll answer_number table_after t more) (left_is s p)
+    ∙ ap (λ (t : Bytes). bytes_after_all answer_number table_after t more) (left_is s p)
     ∙ sym (append_bytes s (calls_made s p) more)
 
-pub all_told : (s : Bytes) (ps : List PublicCall) → all_told s ps ≡ answersOn answer_number table_after s (all_made s ps)
+pub all_told : (s : Bytes) (ps : List PublicCall) → all_told s ps ≡ answers_on answer_number table_after s (all_made s ps)
 all_told s [] = refl
 all_told s (p ∷ ps) =
     let more : List Call = all_made (table_left s p) ps in
     ap₂ (λ (ms ns : List ℕ). ms ++ ns) (told_is s p)
-    (all_told (table_left s p) ps ∙ ap (λ (t : Bytes). answersOn answer_number table_after t more) (left_is s p))
+    (all_told (table_left s p) ps ∙ ap (λ (t : Bytes). answers_on answer_number table_after t more) (left_is s p))
     ∙ sym (append_answers s (calls_made s p) more)
 
 made_is : (s : Bytes) (p : PublicCall) → IsPublicCall p → All IsCall (calls_made s p)
@@ -125,7 +125,7 @@ counted-append k [] ys = refl
 counted-append k (x ∷ xs) ys = counted-append (raised k x) xs ys
 
 append-counted : (s : Bytes) (cs ds : List Call)
-    → counted_answers s (cs ++ ds) ≡ counted_answers s cs ++ counted_answers (bytesAfterAll answer_number table_after s cs) ds
+    → counted_answers s (cs ++ ds) ≡ counted_answers s cs ++ counted_answers (bytes_after_all answer_number table_after s cs) ds
 append-counted s [] ds = refl
 append-counted s (c ∷ cs) ds =
     by_test (is_counted c)
@@ -153,7 +153,7 @@ got-counted clock c = either (has_clock c)
 abbrev Counted : Call → Type 0
 Counted c = is_counted c ≡ true
 
-all_counted : (s : Bytes) (cs : List Call) → All Counted cs → counted_answers s cs ≡ answersOn answer_number table_after s cs
+all_counted : (s : Bytes) (cs : List Call) → All Counted cs → counted_answers s cs ≡ answers_on answer_number table_after s cs
 all_counted s [] h = refl
 all_counted s (c ∷ cs) h = rw h.0 (ap (λ (ns : List ℕ). answer_number s c ∷ ns) (all_counted (table_after s c) cs h.1))
 
@@ -193,7 +193,7 @@ counters_counted k s (p ∷ ps) =
     let one : List ℕ = counted_answers s (calls_made s p) in
     counters_counted (counters_left k s p) (table_left s p) ps
     ∙ ap₂ (λ (u : Counters) (t : Bytes). counted u (counted_answers t more)) (one_counted k s p) (left_is s p)
-    ∙ sym (counted-append k one (counted_answers (bytesAfterAll answer_number table_after s (calls_made s p)) more))
+    ∙ sym (counted-append k one (counted_answers (bytes_after_all answer_number table_after s (calls_made s p)) more))
     ∙ sym (ap (counted k) (append-counted s (calls_made s p) more))
 
 pub counts_kept : CountsKept

@@ -10,7 +10,7 @@ use Rattle.call_history.specs.Model.{Env, Call, datagram, ping_sent, sweep, clos
 use Rattle.call_history.specs.Keccak.{with_keccak}
 use Rattle.call_history.specs.Chain.{IsCall}
 use Rattle.call_history.specs.Demand3.{Demand3}
-use Rattle.call_model.specs.Calls.{answerOn, bytesAfter}
+use Rattle.call_model.specs.Calls.{answer_on, bytes_after}
 use Rattle.call_model.specs.Reading.{reading}
 use Rattle.call_model.specs.OverBytes.{encode}
 use Rattle.call_answer.specs.Answer.{number_of}
@@ -27,18 +27,18 @@ use Rattle.call_burst.specs.Burst as bursts
 -- the answer number of each call on a table's bytes
 abbrev pub answer_number : Bytes → Call → ℕ
 answer_number s (datagram now unix address udp key bytes) = number_of (received s now unix address udp key bytes)
-answer_number s (ping_sent now key address udp tcp hash) = answerOn reading s (ping_sent now key address udp tcp hash)
-answer_number s (sweep now) = answerOn reading s (sweep now)
+answer_number s (ping_sent now key address udp tcp hash) = answer_on reading s (ping_sent now key address udp tcp hash)
+answer_number s (sweep now) = answer_on reading s (sweep now)
 answer_number s (closest target room) = (listed s target room).number
-answer_number s (unclocked c) = answerOn reading s (unclocked c)
+answer_number s (unclocked c) = answer_on reading s (unclocked c)
 
 -- the table's bytes that it leaves; a closest call is lent them only to read
 abbrev pub table_after : Bytes → Call → Bytes
-table_after s (datagram now unix address udp key bytes) = bytesAfter reading s (datagram now unix address udp key bytes)
-table_after s (ping_sent now key address udp tcp hash) = bytesAfter reading s (ping_sent now key address udp tcp hash)
-table_after s (sweep now) = bytesAfter reading s (sweep now)
+table_after s (datagram now unix address udp key bytes) = bytes_after reading s (datagram now unix address udp key bytes)
+table_after s (ping_sent now key address udp tcp hash) = bytes_after reading s (ping_sent now key address udp tcp hash)
+table_after s (sweep now) = bytes_after reading s (sweep now)
 table_after s (closest target room) = s
-table_after s (unclocked c) = bytesAfter reading s (unclocked c)
+table_after s (unclocked c) = bytes_after reading s (unclocked c)
 
 -- the tally is "raised by datagram, ping-sent and sweep calls"
 abbrev pub is_counted : Call → Bool

@@ -1,4 +1,5 @@
 // The public library. Each function's contract stands where the function does; none has a precondition.
+#![tactic(auto)]
 
 // ---- the table's calls
 // `init` makes lent bytes a fresh table. `datagram`, `ping_sent` and `sweep` count their answers in lent counters, `burst` those of its

@@ -7,10 +7,10 @@ use Rattle.octets.specs.Octets.{Bytes}
 use Rattle.lists.proofs.Laws.{never}
 use Rattle.call_history.specs.Model.{Env, Call, datagram, ping_sent, sweep, closest, unclocked}
 use Rattle.call_history.specs.Keccak.{with_keccak}
-use Rattle.call_history.specs.Chain.{IsCall, answersOn, bytesAfterAll}
-use Rattle.call_model.specs.Calls.{bytesAfter}
+use Rattle.call_history.specs.Chain.{IsCall, answers_on, bytes_after_all}
+use Rattle.call_model.specs.Calls.{bytes_after}
 use Rattle.call_model.specs.Reading.{reading}
-use Rattle.call_order.specs.Order.{hasBucket, Apart, InStretch, after, answered, EitherWay}
+use Rattle.call_order.specs.Order.{has_bucket, Apart, InStretch, after, answered, EitherWay}
 use Rattle.call_order.proofs.Lists.{Commutes}
 use Rattle.call_order.proofs.Bytes.{SameAnswer, IsForm, form-left, bytes-either, answer-either}
 use Rattle.counters.specs.declared.Counters.{Counters}
@@ -37,7 +37,7 @@ number_in x (sweep now) = refl
 number_in x (closest target room) = refl
 number_in x (unclocked c) = number_back c (answer_number x.table (unclocked c))
 
-pub numbers_in : (x : State) (cs : List Call) → map (λ v. number_in v.1) (answered told left x cs) ≡ answersOn answer_number table_after x.table cs
+pub numbers_in : (x : State) (cs : List Call) → map (λ v. number_in v.1) (answered told left x cs) ≡ answers_on answer_number table_after x.table cs
 numbers_in x [] = refl
 numbers_in x (c ∷ cs) = ap₂ (λ n ns. n ∷ ns) (number_in x c) (numbers_in (left x c) cs)
 
@@ -46,12 +46,12 @@ counted_one true k n ns = refl
 counted_one false k n ns = refl
 
 after_is : (x : State) (cs : List Call)
-    → after told left x cs ≡ record { table = bytesAfterAll answer_number table_after x.table cs; counters = counted x.counters (counted_answers x.table cs) }
+    → after told left x cs ≡ record { table = bytes_after_all answer_number table_after x.table cs; counters = counted x.counters (counted_answers x.table cs) }
 after_is x [] = refl
 after_is x (c ∷ cs) =
     let s = table_after x.table c in
     after_is (left x c) cs
-    ∙ ap (λ k. record { table = bytesAfterAll answer_number table_after s cs; counters = k })
+    ∙ ap (λ k. record { table = bytes_after_all answer_number table_after s cs; counters = k })
     (counted_one (is_counted c) x.counters (answer_number x.table c) (counted_answers s cs))
 
 pub left-all : (x : State) (ps : List PublicCall) → left_all x ps ≡ after told left x (all_made x.table ps)
@@ -61,11 +61,11 @@ left-all x ps =
 
 -- ---- two calls
 
-tables_are : (s : Bytes) (c d : Call) → table_after (table_after s c) d ≡ bytesAfter reading (bytesAfter reading s c) d
-tables_are s c d = bytes_same (table_after s c) d ∙ ap (λ z. bytesAfter reading z d) (bytes_same s c)
+tables_are : (s : Bytes) (c d : Call) → table_after (table_after s c) d ≡ bytes_after reading (bytes_after reading s c) d
+tables_are s c d = bytes_same (table_after s c) d ∙ ap (λ z. bytes_after reading z d) (bytes_same s c)
 
 -- a call with a bucket is counted
-pub is-counted : (e : Env) (c : Call) → hasBucket e c ≡ true → is_counted c ≡ true
+pub is-counted : (e : Env) (c : Call) → has_bucket e c ≡ true → is_counted c ≡ true
 is-counted e (datagram now unix address udp key bytes) h = refl
 is-counted e (ping_sent now key address udp tcp hash) h = refl
 is-counted e (sweep now) h = never (sym h)
@@ -73,7 +73,7 @@ is-counted e (closest target room) h = never (sym h)
 is-counted e (unclocked c) h = never (sym h)
 
 -- what it is told is its answer on the table
-same_told : (e : Env) (x y : State) (c : Call) → hasBucket e c ≡ true → SameAnswer x.table y.table c → told y c ≡ told x c
+same_told : (e : Env) (x y : State) (c : Call) → has_bucket e c ≡ true → SameAnswer x.table y.table c → told y c ≡ told x c
 same_told e x y (datagram now unix address udp key bytes) has h = ap Told.packet h
 same_told e x y (ping_sent now key address udp tcp hash) has h = ap Told.number h
 same_told e x y (sweep now) has h = never (sym has)

@@ -12,12 +12,12 @@ use Rattle.table_model.specs.Layout.{clock_of}
 use Rattle.call_history.specs.Model.{Env, Call, datagram, ping_sent, sweep, closest, unclocked}
 use Rattle.call_history.specs.Chain.{IsCall}
 use Rattle.call_history.specs.Demand3.{clock_reading}
-use Rattle.call_model.specs.Calls.{answerOn, bytesAfter}
+use Rattle.call_model.specs.Calls.{answer_on, bytes_after}
 use Rattle.call_model.specs.Reading.{reading}
 use Rattle.call_model.proofs.AnyBytes.{on-any-bytes}
 use Rattle.call_low.specs.Got.{at_millis, clocked, got, received_by, received_low}
 use Rattle.call_low.proofs.Calls.{got_is}
-use Rattle.call_order.specs.Order.{hasBucket, isOfBucket, Apart, InStretch, EitherWay}
+use Rattle.call_order.specs.Order.{has_bucket, is_of_bucket, Apart, InStretch, EitherWay}
 use Rattle.call_order.proofs.Lists.{Commutes}
 use Rattle.call_order.proofs.Bytes.{clock-after}
 use Rattle.counters.specs.declared.Counters.{Counters}
@@ -39,11 +39,11 @@ told-clocked (At t) x r unix address udp key bytes = refl
 told-clocked Back x r unix address udp key bytes = refl
 
 number-clocked : (w : Widened) (x : State) (r : ℕ) (key address : Bytes) (udp tcp : ℕ) (hash : Bytes)
-    → Told.number (answerOn reading x.table (clocked w (ping_sent r key address udp tcp hash))) ≡ told x (clocked w (ping_sent r key address udp tcp hash))
+    → Told.number (answer_on reading x.table (clocked w (ping_sent r key address udp tcp hash))) ≡ told x (clocked w (ping_sent r key address udp tcp hash))
 number-clocked (At t) x r key address udp tcp hash = refl
 number-clocked Back x r key address udp tcp hash = refl
 
-sweep_clocked : (w : Widened) (x : State) (r : ℕ) → Told.number (answerOn reading x.table (clocked w (sweep r))) ≡ told x (clocked w (sweep r))
+sweep_clocked : (w : Widened) (x : State) (r : ℕ) → Told.number (answer_on reading x.table (clocked w (sweep r))) ≡ told x (clocked w (sweep r))
 sweep_clocked (At t) x r = refl
 sweep_clocked Back x r = refl
 
@@ -67,14 +67,14 @@ left-got x c =
 -- ---- a call that has a bucket, at another clock
 
 module _ (e : Env) where
-  at_key : (c : Call) (t : ℕ) → hasBucket e c ≡ true → InStretch e t (at_millis c t)
+  at_key : (c : Call) (t : ℕ) → has_bucket e c ≡ true → InStretch e t (at_millis c t)
   at_key (datagram now unix address udp key bytes) t has = (refl, has)
   at_key (ping_sent now key address udp tcp hash) t has = (refl, has)
   at_key (sweep now) t has = never (sym has)
   at_key (closest target room) t has = never (sym has)
   at_key (unclocked c) t has = never (sym has)
 
-  same-bucket : (i : ℕ) (c : Call) (t : ℕ) → isOfBucket e i (at_millis c t) ≡ isOfBucket e i c
+  same-bucket : (i : ℕ) (c : Call) (t : ℕ) → is_of_bucket e i (at_millis c t) ≡ is_of_bucket e i c
   same-bucket i (datagram now unix address udp key bytes) t = refl
   same-bucket i (ping_sent now key address udp tcp hash) t = refl
   same-bucket i (sweep now) t = refl
@@ -100,7 +100,7 @@ module _ (e : Env) where
   got-from r (unclocked c) in_c clock w h = never (sym in_c.1)
 
 -- a refused reading leaves the table
-back_left : (s : Bytes) (c : Call) → bytesAfter reading s (unclocked c) ≡ s
+back_left : (s : Bytes) (c : Call) → bytes_after reading s (unclocked c) ≡ s
 back_left s c =
     (on-any-bytes reading).refused_unchanged s (unclocked c) (λ z. never (sym (rw z at ((on-any-bytes reading).number_listed s (unclocked c)))))
 
@@ -132,16 +132,16 @@ module _ (own : Bytes) (count : ℕ) (one : 1 ≤ count) (most : count ≤ 256) 
         (λ i h g. apart i (sym (same-bucket rules i c t.0) ∙ h) (sym (same-bucket rules i d t.0) ∙ g))
     clocked-either Back c d is_c is-d in_c in-d apart =
         let s = x.table in
-        let same : (c d : Call) → bytesAfter reading (bytesAfter reading s (unclocked c)) (unclocked d) ≡ s =
-        λ c d. back_left (bytesAfter reading s (unclocked c)) d ∙ back_left s c in
+        let same : (c d : Call) → bytes_after reading (bytes_after reading s (unclocked c)) (unclocked d) ≡ s =
+        λ c d. back_left (bytes_after reading s (unclocked c)) d ∙ back_left s c in
         record {
           state =
               ap₂ (λ (t : Bytes) (u : Counters). record { table = t; counters = u })
               (same c d ∙ sym (same d c))
               (rw (is-counted rules c in_c.1, is-counted rules d in-d.1, back_left s c, back_left s d)
-              (raised_comm x.counters (answerOn reading s (unclocked c)) (answerOn reading s (unclocked d))));
-          first = ap (λ z. told_back c (answerOn reading z (unclocked c))) (back_left s d);
-          second = ap (λ z. told_back d (answerOn reading z (unclocked d))) (back_left s c);
+              (raised_comm x.counters (answer_on reading s (unclocked c)) (answer_on reading s (unclocked d))));
+          first = ap (λ z. told_back c (answer_on reading z (unclocked c))) (back_left s d);
+          second = ap (λ z. told_back d (answer_on reading z (unclocked d))) (back_left s c);
         }
 
     abbrev w : Widened

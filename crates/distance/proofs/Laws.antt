@@ -65,9 +65,9 @@ module _ (a b : Bytes) (la : length a ≡ 32) (lb : length b ≡ 32) (ba : IsByt
       cc
 
   -- one byte more
-  pub upTo-next : (i : ℕ) → i < 32 → up_to a b (i + 1) ≡ up_to a b i * 256 + bit_xor (get_or a i 0) (get_or b i 0)
+  pub up_to_next : (i : ℕ) → i < 32 → up_to a b (i + 1) ≡ up_to a b i * 256 + bit_xor (get_or a i 0) (get_or b i 0)
   unfolding distance
-  upTo-next i h =
+  up_to_next i h =
       let na : number (part a 0 (i + 1)) ≡ number (part a 0 i) * 256 + get_or a i 0 = rw zero-add at (number_next a 0 i (omega arith)) in
       let nb : number (part b 0 (i + 1)) ≡ number (part b 0 i) * 256 + get_or b i 0 = rw zero-add at (number_next b 0 i (omega arith)) in
       rw (na, nb) (xor_block 8 (number (part a 0 i)) (number (part b 0 i)) (get_or a i 0) (get_or b i 0) (ba i) (bb i))
@@ -81,9 +81,9 @@ module _ (a b : Bytes) (la : length a ≡ 32) (lb : length b ≡ 32) (ba : IsByt
   top-after (suc k) i j h t =
       let x : ℕ = bit_xor (get_or a i 0) (get_or b i 0) in
       let small : x < 256 = xor_lt 8 (get_or a i 0) (get_or b i 0) (ba i) (bb i) in
-      let least : 2 ^ (j + 8) ≤ up_to a b (i + 1) = rw (upTo-next i (omega arith), pow-add) (omega (arith, t.least)) in
+      let least : 2 ^ (j + 8) ≤ up_to a b (i + 1) = rw (up_to_next i (omega arith), pow-add) (omega (arith, t.least)) in
       let e : suc (j + 8) ≡ suc j + 8 = omega arith in
-      let below : up_to a b (i + 1) < 2 ^ suc (j + 8) = rw (upTo-next i (omega arith), e, pow-add) (omega (arith, t.below)) in
+      let below : up_to a b (i + 1) < 2 ^ suc (j + 8) = rw (up_to_next i (omega arith), e, pow-add) (omega (arith, t.below)) in
       let more : Top (j + 8 + 8 * k) (up_to a b (i + 1 + k)) = top-after k (i + 1) (j + 8) (omega arith) (record { least = least; below = below }) in
       let e₁ : j + 8 + 8 * k ≡ j + 8 * suc k = omega arith in
       let e₂ : i + 1 + k ≡ i + suc k = omega arith in
@@ -91,7 +91,7 @@ module _ (a b : Bytes) (la : length a ≡ 32) (lb : length b ≡ 32) (ba : IsByt
 
   -- a turn with equal bytes
   pub equal-turn : (i : ℕ) → i < 32 → up_to a b i ≡ 0 → bit_xor (get_or a i 0) (get_or b i 0) ≡ 0 → up_to a b (i + 1) ≡ 0
-  equal-turn i h same e = upTo-next i h ∙ rw (same, e) refl
+  equal-turn i h same e = up_to_next i h ∙ rw (same, e) refl
 
   -- the hashes are equal
   pub all-equal : up_to a b 32 ≡ 0 → bit_length (distance a b) ≡ 0
@@ -105,7 +105,7 @@ module _ (a b : Bytes) (la : length a ≡ 32) (lb : length b ≡ 32) (ba : IsByt
       let small : x < 2 ^ 8 = xor_lt 8 (get_or a i 0) (get_or b i 0) (ba i) (bb i) in
       let t = leading_top 8 x (omega arith) small in
       let j : ℕ = t.0 in
-      let e : up_to a b (i + 1) ≡ x = upTo-next i h ∙ rw (same, zero-mul, zero-add) refl in
+      let e : up_to a b (i + 1) ≡ x = up_to_next i h ∙ rw (same, zero-mul, zero-add) refl in
       let top : Top (j + 8 * (31 - i)) (up_to a b (i + 1 + (31 - i))) =
       top-after (31 - i) (i + 1) j (omega arith) (rw e (record { least = t.2; below = t.3 })) in
       let all : i + 1 + (31 - i) ≡ 32 = omega arith in

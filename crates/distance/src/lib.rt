@@ -1,4 +1,6 @@
 // The distance of two nodes, by its number of binary digits, and the bucket that it falls in.
+#![tactic(auto)]
+
 ghost use Rattle.std.specs.Prelude.{◌≡◌, length};
 ghost use Rattle.std.specs.Int.Count.{count_leading_zeros};
 ghost use Rattle.distance.specs.Distance.{distance, bit_length, in_bucket, home};

@@ -1,4 +1,6 @@
 // One line of a boot list: an enode URL.
+#![tactic(auto)]
+
 ghost use Rattle.std.specs.Prelude.{◌≡◌, [], ◌∷◌, ◌≤◌, length};
 ghost use Rattle.octets.specs.Octets.{part};
 ghost use Rattle.lists.specs.Lists.{all};
@@ -11,21 +13,21 @@ use octets::same_bytes;
 use text::{Decimal, find, read_decimal};
 
 // A number up to a mark, and the index after the mark.
-#[derive(Drop)]
+#[derive(Clone, Copy)]
 pub enum Field {
     Number { value: u64, next: usize },
     Unfit,
 }
 
 // UDP port and TCP port.
-#[derive(Drop)]
+#[derive(Clone, Copy)]
 pub enum Ports {
     Both { udp: u16, tcp: u16 },
     Unfit,
 }
 
 // What a line says: a node if it fits, else a node of zeros.
-#[derive(Drop)]
+#[derive(Clone, Copy)]
 pub struct Enode {
     pub fits: bool,
     pub node: Node,

@@ -1,4 +1,6 @@
 // Boot lists: node records read from enode lines.
+#![tactic(auto)]
+
 ghost use Rattle.std.specs.Prelude.{◌≡◌, ◌≤◌, ◌<◌, length};
 ghost use Rattle.text.specs.Lines.{lines_of};
 ghost use Rattle.enode_list.specs.List.{end_number, boot, list_after};
@@ -7,7 +9,7 @@ ghost use Rattle.enode_list.specs.Steps.{next_at, with_nodes, read_with};
 use node::Node;
 
 // Why a reading of enode lines ended. Lines count from 1.
-#[derive(Drop)]
+#[derive(Clone, Copy)]
 pub enum End {
     // All lines are read.
     Complete,
@@ -18,7 +20,7 @@ pub enum End {
 }
 
 // How many records the list received, and why the reading ended.
-#[derive(Drop)]
+#[derive(Clone, Copy)]
 pub struct Boot {
     pub count: usize,
     pub end: End,
@@ -36,7 +38,7 @@ pub fn end_number(end: End) -> u8
 }
 
 // What a line says, and where the next begins.
-#[derive(Drop)]
+#[derive(Clone, Copy)]
 struct Next {
     fits: bool,
     node: Node,
@@ -132,7 +134,7 @@ fn with_enodes(list: [Node; 16], text: &[u8], count: usize) -> [Node; 16]
 }
 
 // What a reading answers, and the list after it.
-#[derive(Drop)]
+#[derive(Clone, Copy)]
 pub struct Read {
     pub boot: Boot,
     pub nodes: [Node; 16],

@@ -1,4 +1,6 @@
 // Boot lists: node records written as enode lines.
+#![tactic(auto)]
+
 ghost use Rattle.std.specs.Prelude.{◌≡◌, true, cond, length};
 ghost use Rattle.written.specs.Written.{written, written_in};
 ghost use Rattle.written.specs.declared.Written.TheVariants.{Done};

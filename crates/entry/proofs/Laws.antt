@@ -130,9 +130,9 @@ loaded_entry s at e₁ e₂ e₃ e₄ e₅ e₆ e₇ e₈ = cc (decode-entry s a
 
 -- ---- an entry is read back from its bytes
 
-pub decode_encode-endpoint : (e : Endpoint) → length e.address ≡ 16 → e.udp < 2 ^ 16 → e.tcp < 2 ^ 16 → decode_endpoint (encode_endpoint e) ≡ e
+pub decode_encode_endpoint : (e : Endpoint) → length e.address ≡ 16 → e.udp < 2 ^ 16 → e.tcp < 2 ^ 16 → decode_endpoint (encode_endpoint e) ≡ e
 unfolding decode_endpoint encode_endpoint
-decode_encode-endpoint e a u t =
+decode_encode_endpoint e a u t =
     let s : List ℕ = encode_endpoint e in
     let l : List ℕ = e.len ∷ [] in
     let bu : List ℕ = big_endian 2 e.udp in
@@ -183,7 +183,7 @@ decode_encode p h =
     let fields : decode_entry s
     ≡ record { key = p.key; endpoint = p.endpoint; seen = record { 0 = p.seen.0 }; proof = p.proof; ping = p.ping; hash = p.hash } =
     cc (
-      decode_encode-endpoint p.endpoint h.address h.udp h.tcp,
+      decode_encode_endpoint p.endpoint h.address h.udp h.tcp,
       number-big_endian 8 p.seen.0 h.seen,
       decode_encode_proof p.proof h.proof,
       decode_encode_ping p.ping h.ping,

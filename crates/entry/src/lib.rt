@@ -1,5 +1,7 @@
 // A table entry by value, with its byte form of 143 bytes:
 // key 64, address length 1, address 16, UDP port 2, TCP port 2, last seen 8, proof 9, ping 9, ping hash 32.
+#![tactic(auto)]
+
 ghost use Rattle.std.specs.Prelude.{◌≡◌, ◌+◌, ◌≤◌, length};
 ghost use Rattle.octets.specs.Octets.{part, store, number};
 ghost use Rattle.entry.specs.Nodes.{node_of};
@@ -8,28 +10,28 @@ ghost use Rattle.entry.specs.Layout.{encode_entry, decode_entry, encode_endpoint
 use node::{Endpoint, MonotonicMillis, Node};
 
 // Document 01's ping state, quiet or out since a stated millisecond.
-#[derive(Drop)]
+#[derive(Clone, Copy)]
 pub enum PingState {
     Quiet,
     Out(MonotonicMillis),
 }
 
 // Document 01's proof: when the node last proved its endpoint.
-#[derive(Drop)]
+#[derive(Clone, Copy)]
 pub enum EndpointProof {
     Unproved,
     At(MonotonicMillis),
 }
 
 // A time that may be missing, as the byte form has it: flag 0 and time 0, or flag 1 and the time.
-#[derive(Drop)]
+#[derive(Clone, Copy)]
 pub struct Stamp {
     pub flag: u8,
     pub time: u64,
 }
 
 // Document 01's place: what the table holds of one node. `hash` is the hash of the last ping sent to it.
-#[derive(Drop)]
+#[derive(Clone, Copy)]
 pub struct Entry {
     pub key: [u8; 64],
     pub endpoint: Endpoint,

@@ -1,4 +1,6 @@
 // Keccak-256, the original Keccak with first padding byte 01 (not FIPS 202's SHA3-256).
+#![tactic(auto)]
+
 ghost use Rattle.std.specs.Prelude.{◌≡◌, length};
 ghost use Rattle.keccak_steps.specs.Permutation.{keccak_f};
 ghost use Rattle.keccak_pad.specs.Padding.{rate};

@@ -1,8 +1,10 @@
 // keccak256 [FILE]: prints the Keccak-256 of the file, or of standard input, as 64 hex digits and a line's end.
 // An input of more than 65,535 bytes is refused on standard error; what fails is reported there.
+#![tactic(auto)]
+
 use libc::{STDERR_FILENO, STDIN_FILENO};
 
-#[derive(Drop)]
+#[derive(Clone, Copy)]
 enum Input {
     // the input's length; at the buffer's own length there may be more
     Bytes(usize),

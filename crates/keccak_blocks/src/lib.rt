@@ -1,4 +1,6 @@
 // A block of Keccak-256 into the state, and the hash out of it.
+#![tactic(auto)]
+
 ghost use Rattle.std.specs.Prelude.{◌≡◌, ◌+◌, ◌≤◌, ◌<◌, length};
 ghost use Rattle.keccak_pad.specs.Padding.{rate};
 ghost use Rattle.keccak_blocks.specs.Blocks.{lane_at, xor_block, squeezed};

@@ -1,5 +1,7 @@
 // Keccak-f[1600] with six lanes kept inverted between the rounds: chi then takes five inversions, not 25.
 // A state is 25 lanes of 64 bits; lane (x, y) stands at x + 5 * y.
+#![tactic(auto)]
+
 ghost use Rattle.std.specs.Prelude.{◌≡◌};
 ghost use Rattle.keccak_complement.specs.Complement.{complement, complement_before_chi};
 ghost use Rattle.keccak_steps.specs.Permutation.{chi};

@@ -1,5 +1,7 @@
 // The permutation Keccak-f[1600].
 // A state is 25 lanes of 64 bits; lane (x, y) stands at x + 5 * y.
+#![tactic(auto)]
+
 ghost use Rattle.std.specs.Prelude.{◌≡◌};
 ghost use Rattle.keccak_complement.specs.Complement.{complement};
 ghost use Rattle.keccak_f.specs.Constants.{published_constants};

@@ -1,4 +1,6 @@
 // The Keccak-256 of a message, printed: for programs.
+#![tactic(auto)]
+
 use libc::STDOUT_FILENO;
 
 // 64 hex digits and a line's end on standard output; whether all was written.

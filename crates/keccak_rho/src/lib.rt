@@ -1,5 +1,7 @@
 // The step rho of Keccak-f[1600]: each lane rotated by its offset.
 // A state is 25 lanes of 64 bits; lane (x, y) stands at x + 5 * y.
+#![tactic(auto)]
+
 ghost use Rattle.std.specs.Prelude.{◌≡◌, ◌<◌};
 ghost use Rattle.keccak_rho.specs.Offsets.{published_offsets};
 ghost use Rattle.keccak_steps.specs.Lanes.{rot};

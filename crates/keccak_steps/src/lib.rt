@@ -2,6 +2,8 @@
 // is published.
 // A state is 25 lanes of 64 bits; lane (x, y) stands at x + 5 * y. The steps are straight-line code on arrays by value, which the compiler
 // inlines and keeps in registers.
+#![tactic(auto)]
+
 ghost use Rattle.std.specs.Prelude.{◌≡◌};
 ghost use Rattle.keccak_steps.specs.Permutation as spec;
 

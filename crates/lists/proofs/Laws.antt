@@ -193,17 +193,17 @@ module _ {A : Type 0} where
   length-modify zero f (a ∷ l) = refl
   length-modify (suc i) f (a ∷ l) = ap suc (length-modify i f l)
 
-  pub getD-modify-same : (i : ℕ) (f : A → A) (l : List A) (d : A) → i < length l → get_or (modify i f l) i d ≡ f (get_or l i d)
-  getD-modify-same i f [] d h = absurd (omega arith)
-  getD-modify-same zero f (a ∷ l) d h = refl
-  getD-modify-same (suc i) f (a ∷ l) d h = getD-modify-same i f l d (omega arith)
+  pub get_d_modify_same : (i : ℕ) (f : A → A) (l : List A) (d : A) → i < length l → get_or (modify i f l) i d ≡ f (get_or l i d)
+  get_d_modify_same i f [] d h = absurd (omega arith)
+  get_d_modify_same zero f (a ∷ l) d h = refl
+  get_d_modify_same (suc i) f (a ∷ l) d h = get_d_modify_same i f l d (omega arith)
 
-  pub getD-modify-other : (i j : ℕ) (f : A → A) (l : List A) (d : A) → (i ≡ j → ⊥) → get_or (modify j f l) i d ≡ get_or l i d
-  getD-modify-other i j f [] d h = refl
-  getD-modify-other zero zero f (a ∷ l) d h = absurd (h refl)
-  getD-modify-other zero (suc j) f (a ∷ l) d h = refl
-  getD-modify-other (suc i) zero f (a ∷ l) d h = refl
-  getD-modify-other (suc i) (suc j) f (a ∷ l) d h = getD-modify-other i j f l d (λ g. h (ap suc g))
+  pub get_d_modify_other : (i j : ℕ) (f : A → A) (l : List A) (d : A) → (i ≡ j → ⊥) → get_or (modify j f l) i d ≡ get_or l i d
+  get_d_modify_other i j f [] d h = refl
+  get_d_modify_other zero zero f (a ∷ l) d h = absurd (h refl)
+  get_d_modify_other zero (suc j) f (a ∷ l) d h = refl
+  get_d_modify_other (suc i) zero f (a ∷ l) d h = refl
+  get_d_modify_other (suc i) (suc j) f (a ∷ l) d h = get_d_modify_other i j f l d (λ g. h (ap suc g))
 
   -- the element stored over the one at an index
   pub set-modify : (i : ℕ) (f : A → A) (l : List A) (d : A) → i < length l → set l i (f (get_or l i d)) ≡ modify i f l

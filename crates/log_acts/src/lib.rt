@@ -1,7 +1,9 @@
 // What a line of a log does to one node. The line is taken as a replay takes it.
+#![tactic(auto)]
+
 ghost use Rattle.std.specs.Prelude.{◌≡◌, true, false, ◌||◌, ◌+◌, ◌≤◌, length};
 ghost use Rattle.call_history.specs.Model as model;
-ghost use Rattle.call_model.specs.Calls.{answerOn, bytesAfter};
+ghost use Rattle.call_model.specs.Calls.{answer_on, bytes_after};
 ghost use Rattle.call_model.specs.IfAny.{sound_if_any};
 ghost use Rattle.call_model.specs.Reading.{reading};
 ghost use Rattle.log_line.specs.Fields.{said};
@@ -21,7 +23,7 @@ use packet_span::Span;
 
 // What a line did, but for where the node stands after it: its answer number; whether it names the node, put it at the tail where it was seated,
 // recorded a ping to it, is a sweep at which its ping is overdue; and whether the node may stand elsewhere after it.
-#[derive(Drop)]
+#[derive(Clone, Copy)]
 pub struct Acted {
     pub number: u8,
     pub named: bool,
@@ -105,8 +107,8 @@ fn hear(
     datagram: &[u8],
 ) -> Acted
     requires { sound_if_any table.old ≡ true }
-    ensures acted { result ≡ acts_by key.now place (answerOn reading table.old (model.datagram clock unix address.now port signer.now datagram.now)) (model.datagram clock unix address.now port signer.now datagram.now) }
-    ensures bytes { table.new ≡ bytesAfter reading table.old (model.datagram clock unix address.now port signer.now datagram.now) }
+    ensures acted { result ≡ acts_by key.now place (answer_on reading table.old (model.datagram clock unix address.now port signer.now datagram.now)) (model.datagram clock unix address.now port signer.now datagram.now) }
+    ensures bytes { table.new ≡ bytes_after reading table.old (model.datagram clock unix address.now port signer.now datagram.now) }
 {
     let time = MonotonicMillis(clock);
     let received = call_datagram::datagram_on_sound(
@@ -139,8 +141,8 @@ fn rx(
 ) -> Acted
     requires line_len_bound { (length line.now ≤ 3000) × ((address.start + address.len ≤ length line.now) × ((signer.start + signer.len ≤ length line.now) × (datagram.start + datagram.len ≤ length line.now))) }
     requires table_value { sound_if_any table.old ≡ true }
-    ensures acted { result ≡ acts_by key.now place (answerOn reading table.old (model.datagram clock unix (said line.now address) port (said line.now signer) (said line.now datagram))) (model.datagram clock unix (said line.now address) port (said line.now signer) (said line.now datagram)) }
-    ensures bytes { table.new ≡ bytesAfter reading table.old (model.datagram clock unix (said line.now address) port (said line.now signer) (said line.now datagram)) }
+    ensures acted { result ≡ acts_by key.now place (answer_on reading table.old (model.datagram clock unix (said line.now address) port (said line.now signer) (said line.now datagram))) (model.datagram clock unix (said line.now address) port (said line.now signer) (said line.now datagram)) }
+    ensures bytes { table.new ≡ bytes_after reading table.old (model.datagram clock unix (said line.now address) port (said line.now signer) (said line.now datagram)) }
 {
     let mut from = [0u8; 1500];
     let a = decode_field(line, address, &mut from);
@@ -189,8 +191,8 @@ fn sent(
 ) -> Acted
     requires line_len_bound { (length line.now ≤ 3000) × ((target.start + target.len ≤ length line.now) × ((address.start + address.len ≤ length line.now) × (hash.start + hash.len ≤ length line.now))) }
     requires table_value { sound_if_any table.old ≡ true }
-    ensures acted { (place : Lookup) → result ≡ acts_by key.now place (answerOn reading table.old (model.ping_sent clock (said line.now target) (said line.now address) udp tcp (said line.now hash))) (model.ping_sent clock (said line.now target) (said line.now address) udp tcp (said line.now hash)) }
-    ensures bytes { table.new ≡ bytesAfter reading table.old (model.ping_sent clock (said line.now target) (said line.now address) udp tcp (said line.now hash)) }
+    ensures acted { (place : Lookup) → result ≡ acts_by key.now place (answer_on reading table.old (model.ping_sent clock (said line.now target) (said line.now address) udp tcp (said line.now hash))) (model.ping_sent clock (said line.now target) (said line.now address) udp tcp (said line.now hash)) }
+    ensures bytes { table.new ≡ bytes_after reading table.old (model.ping_sent clock (said line.now target) (said line.now address) udp tcp (said line.now hash)) }
 {
     let mut node = [0u8; 1500];
     let k = decode_field(line, target, &mut node);
@@ -216,8 +218,8 @@ fn sent(
 // `sweep`: milliseconds.
 fn sweep(table: &mut [u8], place: Lookup, clock: u64) -> Acted
     requires { sound_if_any table.old ≡ true }
-    ensures acted { result ≡ swept_acts place (answerOn reading table.old (model.sweep clock)) clock }
-    ensures bytes { table.new ≡ bytesAfter reading table.old (model.sweep clock) }
+    ensures acted { result ≡ swept_acts place (answer_on reading table.old (model.sweep clock)) clock }
+    ensures bytes { table.new ≡ bytes_after reading table.old (model.sweep clock) }
 {
     let time = MonotonicMillis(clock);
     let number = call_sweep::sweep_on_sound(table, time);
@@ -232,7 +234,7 @@ fn sweep(table: &mut [u8], place: Lookup, clock: u64) -> Acted
 }
 
 // What a line did, and the replay after it.
-#[derive(Drop)]
+#[derive(Clone, Copy)]
 pub struct Taken {
     pub replay: Replay,
     pub acted: Acted,

@@ -1,9 +1,11 @@
 // The calls of a log's lines: a line's fields are decoded, its call is made on the table, and its answer is written into lent bytes. The lines of a
 // log lead to no bytes or to a sound table, so the calls test none.
+#![tactic(auto)]
+
 ghost use Rattle.std.specs.Prelude.{◌≡◌, true, ◌+◌, ◌≤◌, length};
 ghost use Rattle.octets.specs.Octets.{store};
 ghost use Rattle.call_history.specs.Model as model;
-ghost use Rattle.call_model.specs.Calls.{answerOn, bytesAfter};
+ghost use Rattle.call_model.specs.Calls.{answer_on, bytes_after};
 ghost use Rattle.call_model.specs.IfAny.{sound_if_any};
 ghost use Rattle.call_model.specs.Reading.{reading};
 ghost use Rattle.call_datagram.specs.Received.{received};
@@ -32,7 +34,7 @@ pub fn rx(
     requires table_value { sound_if_any table.old ≡ true }
     ensures len { result ≡ length (received_row (received table.old clock unix (said line.now address) port (said line.now signer) (said line.now datagram))) }
     ensures written { out.new ≡ store out.old 0 (received_row (received table.old clock unix (said line.now address) port (said line.now signer) (said line.now datagram))) }
-    ensures bytes { table.new ≡ bytesAfter reading table.old (model.datagram clock unix (said line.now address) port (said line.now signer) (said line.now datagram)) }
+    ensures bytes { table.new ≡ bytes_after reading table.old (model.datagram clock unix (said line.now address) port (said line.now signer) (said line.now datagram)) }
     ensures room { result ≤ answer_room }
 {
     let mut from = [0u8; 1500];
@@ -67,9 +69,9 @@ pub fn sent(
 ) -> usize
     requires answer_room_in_bounds { (answer_room ≤ length out.old) × ((length line.now ≤ 3000) × ((key.start + key.len ≤ length line.now) × ((address.start + address.len ≤ length line.now) × (hash.start + hash.len ≤ length line.now)))) }
     requires table_value { sound_if_any table.old ≡ true }
-    ensures len { result ≡ length (number_row (answerOn reading table.old (model.ping_sent clock (said line.now key) (said line.now address) udp tcp (said line.now hash)))) }
-    ensures written { out.new ≡ store out.old 0 (number_row (answerOn reading table.old (model.ping_sent clock (said line.now key) (said line.now address) udp tcp (said line.now hash)))) }
-    ensures bytes { table.new ≡ bytesAfter reading table.old (model.ping_sent clock (said line.now key) (said line.now address) udp tcp (said line.now hash)) }
+    ensures len { result ≡ length (number_row (answer_on reading table.old (model.ping_sent clock (said line.now key) (said line.now address) udp tcp (said line.now hash)))) }
+    ensures written { out.new ≡ store out.old 0 (number_row (answer_on reading table.old (model.ping_sent clock (said line.now key) (said line.now address) udp tcp (said line.now hash)))) }
+    ensures bytes { table.new ≡ bytes_after reading table.old (model.ping_sent clock (said line.now key) (said line.now address) udp tcp (said line.now hash)) }
     ensures room { result ≤ answer_room }
 {
     let mut node = [0u8; 1500];
@@ -94,9 +96,9 @@ pub fn sent(
 pub fn sweep(table: &mut [u8], out: &mut [u8], clock: u64) -> usize
     requires answer_room_in_bounds { answer_room ≤ length out.old }
     requires table_value { sound_if_any table.old ≡ true }
-    ensures len { result ≡ length (number_row (answerOn reading table.old (model.sweep clock))) }
-    ensures written { out.new ≡ store out.old 0 (number_row (answerOn reading table.old (model.sweep clock))) }
-    ensures bytes { table.new ≡ bytesAfter reading table.old (model.sweep clock) }
+    ensures len { result ≡ length (number_row (answer_on reading table.old (model.sweep clock))) }
+    ensures written { out.new ≡ store out.old 0 (number_row (answer_on reading table.old (model.sweep clock))) }
+    ensures bytes { table.new ≡ bytes_after reading table.old (model.sweep clock) }
     ensures room { result ≤ answer_room }
 {
     let number = call_sweep::sweep_on_sound(table, MonotonicMillis(clock));

@@ -20,11 +20,11 @@ use Rattle.entry.specs.declared.PingState.TheVariants.{Quiet, Out}
 use Rattle.bucket_model.specs.Contents.{Contents}
 use Rattle.bucket_model.specs.Rules.{millis, of_key, held, takes_entry, pinged, ponged, heard, new_entry, promoted, remaining, stays_entry, stays_replacement, on_ping_sent, on_pong, on_heard, on_sweep}
 use Rattle.bucket_model.proofs.Keys.{promoted_or_remaining}
-use Rattle.bucket_model.proofs.View.{Holds, kept_entries, kept_replacements, own-heard, own-pong-stays, own-pong-takes, own-pinged, own-joined, own-sweep, ofKey-kept}
-use Rattle.bucket_model.proofs.Promotion.{ofKey-promoted, ofKey-remaining}
-use Rattle.call_history.specs.Model.{Env, Call, datagram, ping_sent, sweep, closest, unclocked, Table, slot, bucketOf, answer, next}
-use Rattle.call_history.specs.Words.{is_pong, entry_of, replacementOf}
-use Rattle.call_history.proofs.Step.{by_datagram, byAnswer, swept_bucket, fresh-bucket, keccak_lawful}
+use Rattle.bucket_model.proofs.View.{Holds, kept_entries, kept_replacements, own-heard, own-pong-stays, own-pong-takes, own-pinged, own-joined, own-sweep, of_key_kept}
+use Rattle.bucket_model.proofs.Promotion.{of_key-promoted, of_key-remaining}
+use Rattle.call_history.specs.Model.{Env, Call, datagram, ping_sent, sweep, closest, unclocked, Table, slot, bucket_of, answer, next}
+use Rattle.call_history.specs.Words.{is_pong, entry_of, replacement_of}
+use Rattle.call_history.proofs.Step.{by_datagram, by_answer, swept_bucket, fresh-bucket, keccak_lawful}
 use Rattle.call_history.proofs.Sound.{TableSound, fresh_sound, next-sound}
 use Rattle.call_history.proofs.View as View
 use Rattle.call_model.specs.Reading.{reading}
@@ -102,13 +102,13 @@ module _ (e : Env) (s : Table) (ok : TableSound e s) (P : List Entry → List En
 
   -- of what the call leaves
   abbrev Left : Bytes → Call → Type 0
-  Left X c = P (entry_of e X (next e s c)) (replacementOf e X (next e s c))
+  Left X c = P (entry_of e X (next e s c)) (replacement_of e X (next e s c))
 
   own-datagram : (now unix : ℕ) (address : Bytes) (udp : ℕ) (key bytes : Bytes) → Cases key (when (datagram now unix address udp key bytes)) P
       → Left key (datagram now unix address udp key bytes)
   own-datagram now unix address udp key bytes cases =
       let c = datagram now unix address udp key bytes in
-      let b = bucketOf e s key in
+      let b = bucket_of e s key in
       let r = e.read bytes unix in
       View.own-datagram e s ok.sized (λ b. P (of_key key b.entries) (of_key key b.replacements)) now unix address udp key bytes
       (λ a.
@@ -121,13 +121,13 @@ module _ (e : Env) (s : Table) (ok : TableSound e s) (P : List Entry → List En
       (λ g. holding P key (on_pong now key b) _ _ (own-pong-stays now key b g) (cases.stays (ponged now) (λ p. inr (inl refl))))))
       (λ rejected. same key (when c) P cases (refl, rw (ne_eqb (answer e s c) 0 rejected) (simp and-false)))
 
-  own-pingSent : (now : ℕ) (key address : Bytes) (udp tcp : ℕ) (hash : Bytes) → Cases key (when (ping_sent now key address udp tcp hash)) P
+  own_ping_sent : (now : ℕ) (key address : Bytes) (udp tcp : ℕ) (hash : Bytes) → Cases key (when (ping_sent now key address udp tcp hash)) P
       → Left key (ping_sent now key address udp tcp hash)
   unfolding number_at
-  own-pingSent now key address udp tcp hash cases =
+  own_ping_sent now key address udp tcp hash cases =
       let c = ping_sent now key address udp tcp hash in
-      let b = bucketOf e s key in
-      View.own-pingSent e s ok.sized (λ b. P (of_key key b.entries) (of_key key b.replacements)) now key address udp tcp hash
+      let b = bucket_of e s key in
+      View.own_ping_sent e s ok.sized (λ b. P (of_key key b.entries) (of_key key b.replacements)) now key address udp tcp hash
       (λ a.
       let is : PingAt key now (when c) = record { address = address; udp = udp; tcp = tcp; hash = hash; asks = refl; done = a } in
       by_test (empty (held key b))
@@ -142,17 +142,17 @@ module _ (e : Env) (s : Table) (ok : TableSound e s) (P : List Entry → List En
   swept-by : (X : Bytes) (now : ℕ) → Cases X (when (sweep now)) P → Left X (sweep now)
   unfolding number_at
   swept-by X now cases =
-      let b = bucketOf e s X in
+      let b = bucket_of e s X in
       let taken = kept_entries now b in
       let line = kept_replacements now b in
-      byAnswer e (λ s'. P (entry_of e X s') (replacementOf e X s')) s (sweep now)
+      by_answer e (λ s'. P (entry_of e X s') (replacement_of e X s')) s (sweep now)
       (λ a. rw (swept_bucket e s now (slot e X))
       (holding P X (on_sweep now b) _ _ (own-sweep X now b)
       (cases.swept now (of_key X (promoted taken line)) (of_key X (remaining taken line)) (record { asks = refl; done = a }) (refl, refl)
-      (promoted_or_remaining X taken line ∙ ap length (ofKey-kept X now b))
+      (promoted_or_remaining X taken line ∙ ap length (of_key_kept X now b))
       (λ Q all.
-      let own : All Q (of_key X line) = rw (ofKey-kept X now b) (All-select Q (stays_replacement now) (of_key X b.replacements) all) in
-      (ofKey-promoted Q X taken line own, ofKey-remaining Q X taken line own)))))
+      let own : All Q (of_key X line) = rw (of_key_kept X now b) (All-select Q (stays_replacement now) (of_key X b.replacements) all) in
+      (of_key-promoted Q X taken line own, of_key-remaining Q X taken line own)))))
       (λ _. same X (when (sweep now)) P cases (refl, refl))
 
   by_call : (X : Bytes) (c : Call) → Cases X (when c) P → Left X c
@@ -160,17 +160,17 @@ module _ (e : Env) (s : Table) (ok : TableSound e s) (P : List Entry → List En
       let c = datagram now unix address udp key bytes in
       by_test (same_bytes X key)
       (λ h. rw (same_eq X key h) (own-datagram now unix address udp key bytes (rw (same_eq X key h) at cases)))
-      (λ h. holding P X (bucketOf e (next e s c) X) _ _ (View.other-datagram e s ok.sized X key h now unix address udp bytes)
+      (λ h. holding P X (bucket_of e (next e s c) X) _ _ (View.other-datagram e s ok.sized X key h now unix address udp bytes)
       (same X (when c) P cases (refl, ap (λ (b : Bool). b && (is_pong (e.read bytes unix) && eqb (answer e s c) 0)) h)))
   by_call X (ping_sent now key address udp tcp hash) cases =
       let c = ping_sent now key address udp tcp hash in
       by_test (same_bytes X key)
-      (λ h. rw (same_eq X key h) (own-pingSent now key address udp tcp hash (rw (same_eq X key h) at cases)))
-      (λ h. holding P X (bucketOf e (next e s c) X) _ _ (View.other-pingSent e s ok.sized X key h now address udp tcp hash)
+      (λ h. rw (same_eq X key h) (own_ping_sent now key address udp tcp hash (rw (same_eq X key h) at cases)))
+      (λ h. holding P X (bucket_of e (next e s c) X) _ _ (View.other_ping_sent e s ok.sized X key h now address udp tcp hash)
       (same X (when c) P cases (ap (λ (b : Bool). b && eqb (number_at (running e s) (call c)) 0) h, refl)))
   by_call X (sweep now) cases = swept-by X now cases
   by_call X (closest target room) cases =
-      byAnswer e (λ s'. P (entry_of e X s') (replacementOf e X s')) s (closest target room)
+      by_answer e (λ s'. P (entry_of e X s') (replacement_of e X s')) s (closest target room)
       (λ _. same X (when (closest target room)) P cases (refl, refl))
       (λ _. same X (when (closest target room)) P cases (refl, refl))
   by_call X (unclocked c) cases = same X (when (unclocked c)) P cases (refl, refl)

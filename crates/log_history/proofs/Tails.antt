@@ -10,8 +10,8 @@ use Rattle.octets.proofs.Laws.{same_eq, same_refl}
 use Rattle.lists.specs.Lists.{any, empty, All}
 use Rattle.lists.proofs.Laws.{by_test, nil}
 use Rattle.bucket_model.specs.Rules.{is_verified, held}
-use Rattle.call_history.specs.Model.{Env, Call, datagram, ping_sent, sweep, closest, unclocked, Table, bucketOf, slot, answer}
-use Rattle.call_history.specs.Words.{is_pong, entry_of, replacementOf, pong_from, heardFrom}
+use Rattle.call_history.specs.Model.{Env, Call, datagram, ping_sent, sweep, closest, unclocked, Table, bucket_of, slot, answer}
+use Rattle.call_history.specs.Words.{is_pong, entry_of, replacement_of, pong_from, heard_from}
 use Rattle.call_history.proofs.Sound.{TableSound}
 use Rattle.log_history.specs.Past.{Asked, own, call, unreadable, Stage, before, running, stage_after, Moment}
 use Rattle.log_history.specs.Why.{seat_in, moves_by, tails, tails_at}
@@ -43,21 +43,21 @@ module _ (e : Env) (s : Table) (ok : TableSound e s) where
   unmoved X g (unclocked c) = refl
 
   -- of a node with an entry, the entry is all that is held
-  held-seat : (X : Bytes) → empty (entry_of e X s) ≡ false → held X (bucketOf e s X) ≡ entry_of e X s
+  held-seat : (X : Bytes) → empty (entry_of e X s) ≡ false → held X (bucket_of e s X) ≡ entry_of e X s
   held-seat X g =
       let has = not_empty (entry_of e X s) g in
-      let none : replacementOf e X s ≡ [] = nil (replacementOf e X s) (omega (arith, (ok.each (slot e X)).once X)) in
+      let none : replacement_of e X s ≡ [] = nil (replacement_of e X s) (omega (arith, (ok.each (slot e X)).once X)) in
       rw (none, append-nil)
 
   own-moved : (now unix : ℕ) (address : Bytes) (udp : ℕ) (key bytes : Bytes) → empty (entry_of e key s) ≡ false
       → moves_by key e s (datagram now unix address udp key bytes)
-      ≡ (pong_from e key s (datagram now unix address udp key bytes) || heardFrom e key s (datagram now unix address udp key bytes))
+      ≡ (pong_from e key s (datagram now unix address udp key bytes) || heard_from e key s (datagram now unix address udp key bytes))
   own-moved now unix address udp key bytes g =
       let c = datagram now unix address udp key bytes in
       rw (same_refl key, held-seat key g, g)
       (pong_or_heard (eqb (answer e s c) 0) (is_pong (e.read bytes unix)) (any (is_verified now address udp) (entry_of e key s)))
 
-  moved : (X : Bytes) → empty (entry_of e X s) ≡ false → (c : Call) → moves_by X e s c ≡ (pong_from e X s c || heardFrom e X s c)
+  moved : (X : Bytes) → empty (entry_of e X s) ≡ false → (c : Call) → moves_by X e s c ≡ (pong_from e X s c || heard_from e X s c)
   moved X g (datagram now unix address udp key bytes) =
       by_test (same_bytes X key)
       (λ h. rw (same_eq X key h) (own-moved now unix address udp key bytes (rw (same_eq X key h) at g)))

@@ -6,7 +6,7 @@ use Rattle.entry.specs.declared.Entry.{Entry}
 use Rattle.bucket_model.specs.Rules.{ping_timeout, is_verified, is_overdue, proof_expired}
 use Rattle.call_history.specs.Model.{Env, Call, datagram, ping_sent, sweep, closest, unclocked, Table, answer}
 use Rattle.call_history.specs.Words as Words
-use Rattle.call_history.specs.Words.{is_pong, entry_of, replacementOf, pong_from}
+use Rattle.call_history.specs.Words.{is_pong, entry_of, replacement_of, pong_from}
 use Rattle.log_history.specs.declared.Reason.{Reason}
 use Rattle.log_history.specs.declared.Reason.TheVariants.{Seated, Waiting, Ping, Proof, Never, Unnamed}
 use Rattle.log_history.specs.Past.{Asked, own, call, unreadable, Stage, before, running, number_at, Moment, leaves, Past, past_of}
@@ -19,7 +19,7 @@ seat_in X (running e s) = entry_of e X s
 
 abbrev pub place_in : Bytes → Stage → List Entry
 place_in X (before owned) = []
-place_in X (running e s) = replacementOf e X s
+place_in X (running e s) = replacement_of e X s
 
 abbrev pub held_in : Bytes → Stage → List Entry
 held_in X st = seat_in X st ++ place_in X st

@@ -1,7 +1,8 @@
 // No code: definitions and laws of a log's run, and the values that they speak of. Line numbers count from 1.
+#![tactic(auto)]
 
 // Why a node is or isn't in the table.
-#[derive(Drop)]
+#[derive(Clone, Copy)]
 pub enum Reason {
     // The line at which it was seated, and the last one that put it at the tail.
     Seated(u64, u64),
@@ -18,7 +19,7 @@ pub enum Reason {
 }
 
 // The latest line that seated a node, put it in line or removed it.
-#[derive(Drop)]
+#[derive(Clone, Copy)]
 pub enum Standing {
     NotYet,
     SeatedAt(u64),
@@ -29,7 +30,7 @@ pub enum Standing {
 
 // What is carried from line to line of one node. `lines`: how many are read. `tail`, `pinged`: the latest lines that put it at the tail and that recorded
 // a ping to it, or 0. `named`: whether a line has it as signer or ping target, and `number` the answer number of the last that has.
-#[derive(Drop)]
+#[derive(Clone, Copy)]
 pub struct Trail {
     pub lines: u64,
     pub standing: Standing,

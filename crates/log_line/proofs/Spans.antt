@@ -108,15 +108,15 @@ counted-within line fs w i = elim (dec_lt i 7) [
   | no g ↦ let e : field (counted fs).spans i ≡ span 0 0 = get_or-eq_default (counted fs).spans (span 0 0) (omega (arith, length-counted fs)) in rw e (omega arith)
 ]
 
-take-drop_one : (n : ℕ) (l : List Span) → take n (drop 1 l) ≡ drop 1 (take (suc n) l)
-take-drop_one n [] = take-nil n
-take-drop_one n (f ∷ l) = refl
+take_drop_one : (n : ℕ) (l : List Span) → take n (drop 1 l) ≡ drop 1 (take (suc n) l)
+take_drop_one n [] = take-nil n
+take_drop_one n (f ∷ l) = refl
 
 -- all of them after the first, where there are no more than seven
 pub counted_rest : (fs : List Span) (n : ℕ) → length fs ≡ n + 1 → n ≤ 6 → take n (drop 1 (counted fs).spans) ≡ drop 1 fs
 unfolding counted part
 counted_rest fs n e h =
     let k : suc n ≡ length fs = omega arith in
-    take-drop_one n (counted fs).spans
+    take_drop_one n (counted fs).spans
     ∙ ap (λ (m : ℕ). drop 1 (take m (counted fs).spans)) k
     ∙ ap (drop 1) (part-store fs (replicate 7 (span 0 0)) 0 (omega arith))

@@ -1,4 +1,6 @@
 // One line of a log, without its 0A: own, rx, sent, sweep, or none of them.
+#![tactic(auto)]
+
 ghost use Rattle.std.specs.Prelude.{◌≡◌, ◌+◌, ◌-◌, ◌^◌, ◌≤◌, ◌<◌, length, take, drop};
 ghost use Rattle.octets.specs.Octets.{store};
 ghost use Rattle.log_line.specs.Fields.{span, fields, said, Within, counted};
@@ -11,7 +13,7 @@ use packet_span::Span;
 use text::Decimal;
 
 // What a line says. Spans are of hex digits.
-#[derive(Drop)]
+#[derive(Clone, Copy)]
 pub enum Line {
     Own {
         buckets: u64,
@@ -42,7 +44,7 @@ pub enum Line {
 }
 
 // What a field after the first must be.
-#[derive(Drop)]
+#[derive(Clone, Copy)]
 enum Kind {
     // A decimal of at most this.
     Number(u64),
@@ -51,7 +53,7 @@ enum Kind {
 }
 
 // How many fields a line has, and its first seven.
-#[derive(Drop)]
+#[derive(Clone, Copy)]
 struct Fields {
     count: usize,
     spans: [Span; 7],

@@ -1,4 +1,6 @@
 // The lines of a log that comes in chunks of any size. A line of at most 3,000 bytes is kept in a lent buffer, and of a longer one only that it is.
+#![tactic(auto)]
+
 ghost use Rattle.std.specs.Prelude.{◌≡◌, ◌≤◌, length};
 ghost use Rattle.log_lines.specs.Lines.{limit};
 ghost use Rattle.log_lines.specs.Steps.{grown, added, step_of, buffer_after, last_of};
@@ -11,7 +13,7 @@ use text::find;
 pub const LIMIT: usize = 3000;
 
 // The line begun: its `len` bytes are the first of the buffer, or it is over the limit.
-#[derive(Drop)]
+#[derive(Clone, Copy)]
 pub struct Begun {
     pub len: usize,
     pub over: bool,
@@ -30,7 +32,7 @@ impl Begun {
 }
 
 // What a step finds. After a line that ended, `Begun::new()` is the line begun.
-#[derive(Drop)]
+#[derive(Clone, Copy)]
 pub enum Step {
     // A line of `len` bytes is in the buffer, and the chunk goes on at `next`.
     Line { len: usize, next: usize },
@@ -41,7 +43,7 @@ pub enum Step {
 }
 
 // What is left at the log's end.
-#[derive(Drop)]
+#[derive(Clone, Copy)]
 pub enum Last {
     // A line without 0A, of `len` bytes in the buffer.
     Line { len: usize },

@@ -7,7 +7,7 @@ use Rattle.lists.specs.Lists.{select, All}
 use Rattle.lists.proofs.Laws.{by_test, never}
 use Rattle.call_history.specs.Model.{Call, datagram, ping_sent, sweep, closest, unclocked}
 use Rattle.call_history.specs.Chain.{IsCall}
-use Rattle.call_model.specs.Calls.{answerOn, bytesAfter}
+use Rattle.call_model.specs.Calls.{answer_on, bytes_after}
 use Rattle.call_model.specs.Reading.{reading}
 use Rattle.call_datagram.specs.Received.{received}
 use Rattle.call_order.specs.Order.{answered}
@@ -33,13 +33,13 @@ at s = record { owned = true; table = s }
 -- the row that answers a call there, and the table that the call leaves
 abbrev pub row : Bytes → Call → Bytes
 row s (datagram now unix address udp key bytes) = received_row (received s now unix address udp key bytes)
-row s (ping_sent now key address udp tcp hash) = number_row (answerOn reading s (ping_sent now key address udp tcp hash))
-row s (sweep now) = number_row (answerOn reading s (sweep now))
-row s (closest target room) = number_row (answerOn reading s (closest target room))
-row s (unclocked c) = number_row (answerOn reading s (unclocked c))
+row s (ping_sent now key address udp tcp hash) = number_row (answer_on reading s (ping_sent now key address udp tcp hash))
+row s (sweep now) = number_row (answer_on reading s (sweep now))
+row s (closest target room) = number_row (answer_on reading s (closest target room))
+row s (unclocked c) = number_row (answer_on reading s (unclocked c))
 
 abbrev pub left : Bytes → Call → Bytes
-left s c = bytesAfter reading s c
+left s c = bytes_after reading s c
 
 -- ---- a line is answered by what it asks for
 

@@ -18,7 +18,7 @@ use Rattle.call_history.specs.Chain.{IsCall}
 use Rattle.call_model.specs.Reading.{reading}
 use Rattle.call_model.specs.OverBytes.{encode}
 use Rattle.call_model.proofs.Form.{table-form}
-use Rattle.call_order.specs.Order.{hasBucket, isOfBucket, Merges, answered, EndAlike}
+use Rattle.call_order.specs.Order.{has_bucket, is_of_bucket, Merges, answered, EndAlike}
 use Rattle.call_order.specs.Order as order
 use Rattle.call_order.proofs.Lists.{Commutes, kept-after, merges-alike}
 use Rattle.call_order.proofs.Bytes.{SameAnswer, IsForm, form-left, bytes-either, answer-either}
@@ -81,7 +81,7 @@ module _ (own : Bytes) (count : ℕ) (one : 1 ≤ count) (most : count ≤ 256) 
 
   -- ---- two calls
 
-  same_row : (s s' : Bytes) (c : Call) → hasBucket e c ≡ true → SameAnswer s s' c → row s' c ≡ row s c
+  same_row : (s s' : Bytes) (c : Call) → has_bucket e c ≡ true → SameAnswer s s' c → row s' c ≡ row s c
   same_row s s' (datagram now unix address udp key bytes) has h = ap received_row h
   same_row s s' (ping_sent now key address udp tcp hash) has h = ap number_row h
   same_row s s' (sweep now) has h = never (sym has)
@@ -153,8 +153,8 @@ module _ (log other : Bytes) (r : Recordings log other) (s : Bytes) (to : after_
             replayed-is other r.start r.others s r.second to
             ∙ ap (λ x. written (rows_of other) ++ ending (at x)) (sym alike.state)
             ∙ ap (λ l. written (rows_of other) ++ l) ends;
-        of_bucket = λ i. same_rows (isOfBucket r.rules i) (alike.answers i);
-        of_none = same_rows (λ c. not (hasBucket r.rules c)) alike.others;
+        of_bucket = λ i. same_rows (is_of_bucket r.rules i) (alike.answers i);
+        of_none = same_rows (λ c. not (has_bucket r.rules c)) alike.others;
         unasked = rw to (lines_not_called s r.lines, lines_not_called s r.others);
       }
 

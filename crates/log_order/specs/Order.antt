@@ -7,7 +7,7 @@ use Rattle.lists.specs.Lists.{select, All}
 use Rattle.text.specs.Lines.{lines_of}
 use Rattle.printout.specs.Printout.{printout}
 use Rattle.call_history.specs.Model.{Env, Call, Table}
-use Rattle.call_order.specs.Order.{hasBucket, isOfBucket, Merges}
+use Rattle.call_order.specs.Order.{has_bucket, is_of_bucket, Merges}
 use Rattle.log_lines.specs.Lines.{Held, held}
 use Rattle.log_answer.specs.AnswerRows.{number_row}
 use Rattle.log_state.specs.State.{State, start_state}
@@ -78,8 +78,8 @@ pub record PrintAlike (log other : Bytes) (r : Recordings log other) : Type 0 wh
   pub first : replayed log ≡ written (rows_of log) ++ printout table
   pub second : replayed other ≡ written (rows_of other) ++ printout table
   -- the rows of each bucket's lines are the same, and those of the call lines without a kept bucket
-  pub of_bucket : (i : ℕ) → rows_with (isOfBucket r.rules i) (rows_of log) ≡ rows_with (isOfBucket r.rules i) (rows_of other)
-  pub of_none : rows_with (λ c. not (hasBucket r.rules c)) (rows_of log) ≡ rows_with (λ c. not (hasBucket r.rules c)) (rows_of other)
+  pub of_bucket : (i : ℕ) → rows_with (is_of_bucket r.rules i) (rows_of log) ≡ rows_with (is_of_bucket r.rules i) (rows_of other)
+  pub of_none : rows_with (λ c. not (has_bucket r.rules c)) (rows_of log) ≡ rows_with (λ c. not (has_bucket r.rules c)) (rows_of other)
   -- any other line after the start gets 21, wherever it stands
   pub unasked : All Unasked (rows_from (after_lines start_state r.start) r.lines) × All Unasked (rows_from (after_lines start_state r.start) r.others)
 

@@ -1,4 +1,6 @@
 // The first line of a log, `own`: a fresh table in the first bytes of a lent memory, and the answer written into lent bytes.
+#![tactic(auto)]
+
 ghost use Rattle.std.specs.Prelude.{◌≡◌, cond, ◌+◌, ◌≤◌, eqb, length};
 ghost use Rattle.octets.specs.Octets.{store};
 ghost use Rattle.table.specs.Init.{fresh_table};
@@ -31,7 +33,7 @@ fn make(memory: &mut [u8], key: &[u8], buckets: u64) -> u8
 }
 
 // What an `own` leaves: the replay after it, and its answer number.
-#[derive(Drop)]
+#[derive(Clone, Copy)]
 pub struct Made {
     pub replay: Replay,
     pub number: u8,

@@ -1,4 +1,6 @@
 // What is told of a key: the text that spells it, and the reason as a row.
+#![tactic(auto)]
+
 ghost use Rattle.std.specs.Prelude.{◌≡◌, true, false, ◌≤◌, length, [], ◌∷◌};
 ghost use Rattle.octets.specs.Octets.{store};
 ghost use Rattle.text.specs.Hex.{unhex};
@@ -10,7 +12,7 @@ use log_history::Reason;
 use printout_rows::{decimal_field, put_end, put_word};
 
 // What is told of a key.
-#[derive(Drop)]
+#[derive(Clone, Copy)]
 pub enum Why {
     // 5: it isn't 128 lower-case hex digits.
     WrongKey,

@@ -1,4 +1,6 @@
 // The answer to an `rx` line of a log, as a line of text, written from the start of lent bytes.
+#![tactic(auto)]
+
 ghost use Rattle.std.specs.Prelude.{◌≡◌, ◌≤◌, length};
 ghost use Rattle.octets.specs.Octets.{store};
 ghost use Rattle.log_answer.specs.AnswerRows.{answer_room};

@@ -32,7 +32,7 @@ use Rattle.call_history.specs.Keccak.{with_keccak}
 use Rattle.call_history.specs.Chain.{IsCall}
 use Rattle.call_history.proofs.Step.{keccak_lawful}
 use Rattle.call_history.proofs.Sound.{TableSound, IsTable, fresh_sound, fresh-values, next-sound, next-values}
-use Rattle.call_model.specs.Calls.{bytesAfter}
+use Rattle.call_model.specs.Calls.{bytes_after}
 use Rattle.call_model.specs.IfAny.{sound_if_any}
 use Rattle.call_model.specs.Reading.{reading}
 use Rattle.call_model.specs.OverBytes.{encode}
@@ -81,7 +81,7 @@ fresh_follows key count one most =
       form = refl;
     }
 
-call_follows : (s : Bytes) → Follows s → (c : Call) → IsCall c → Follows (bytesAfter reading s c)
+call_follows : (s : Bytes) → Follows s → (c : Call) → IsCall c → Follows (bytes_after reading s c)
 call_follows s f c is =
     let e : Env = rules f.key f.count in
     record {
@@ -93,14 +93,14 @@ call_follows s f c is =
       sound = next-sound e f.table f.sound c;
       values = next-values e f.table f.sound f.values c is;
       form =
-          ap (λ m. bytesAfter reading m c) f.form
+          ap (λ m. bytes_after reading m c) f.form
           ∙ (step_follows reading (keccak256 f.key) f.count f.one (omega (arith, f.most)) f.table c f.sound f.values is).1;
     }
 
 -- ---- a line
 
-call_good : (owned : Bool) (s : Bytes) (c : Call) → IsCall c → Good (record { owned = owned; table = s }) → Good (record { owned = owned; table = bytesAfter reading s c })
-call_good owned s c is (none e) = none (ap (λ m. bytesAfter reading m c) e ∙ no_table_bytes c)
+call_good : (owned : Bool) (s : Bytes) (c : Call) → IsCall c → Good (record { owned = owned; table = s }) → Good (record { owned = owned; table = bytes_after reading s c })
+call_good owned s c is (none e) = none (ap (λ m. bytes_after reading m c) e ∙ no_table_bytes c)
 call_good owned s c is (some f) = some (call_follows s f c is)
 
 own_good : (st : State) (buckets : ℕ) (key : Bytes) → Good st → Good (own_after st buckets key)

@@ -11,7 +11,7 @@ use Rattle.log_line.specs.declared.Line.TheVariants.{Own, Rx, Sent, Sweep, Unrea
 use Rattle.log_line.specs.Fields.{said}
 use Rattle.log_line.specs.Forms.{line_of}
 use Rattle.call_history.specs.Model.{Call, datagram, ping_sent, sweep, closest, unclocked}
-use Rattle.call_model.specs.Calls.{answerOn, bytesAfter}
+use Rattle.call_model.specs.Calls.{answer_on, bytes_after}
 use Rattle.call_model.specs.Reading.{reading}
 use Rattle.call_model.specs.AnyBytes.{SoundFor}
 use Rattle.call_model.proofs.AnyBytes.{on-any-bytes}
@@ -29,10 +29,10 @@ not_sound (sweep now) h = never (sym h ∙ none_unsound [] refl)
 not_sound (closest target room) h = never (sym h ∙ none_unsound [] refl)
 not_sound (unclocked c) h = not_sound c h
 
-pub no_table_number : (c : Call) → answerOn reading [] c ≡ 1
+pub no_table_number : (c : Call) → answer_on reading [] c ≡ 1
 no_table_number c = ((on-any-bytes reading).one-exactly [] c).1 (not_sound c)
 
-pub no_table_bytes : (c : Call) → bytesAfter reading [] c ≡ []
+pub no_table_bytes : (c : Call) → bytes_after reading [] c ≡ []
 no_table_bytes c = (on-any-bytes reading).refused_unchanged [] c (λ z. absurd (omega (arith, no_table_number c)))
 
 no_table_received : (now unix : ℕ) (address : Bytes) (udp : ℕ) (key g : Bytes) → received_row (received [] now unix address udp key g) ≡ number_row 1

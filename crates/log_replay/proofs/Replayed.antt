@@ -24,11 +24,11 @@ unfolding size_of
 start-state memory = refl
 
 -- what `too_long` writes answers a line over the limit
-pub too_long-answered : (replay : Replay) (memory out : Bytes) → 46304 ≤ length memory → replay.count ≤ 16 → {out' : Bytes} {n : ℕ}
+pub too_long_answered : (replay : Replay) (memory out : Bytes) → 46304 ≤ length memory → replay.count ≤ 16 → {out' : Bytes} {n : ℕ}
     → n ≡ length (number_row 21) → out' ≡ store out 0 (number_row 21) → n ≤ answer_room
     → AnsweredLine replay too_long memory out (record { replay = replay; len = n }) memory out'
 unfolding after answer
-too_long-answered replay memory out big few len written room = unchanged replay memory out big few (number_row 21) len written room
+too_long_answered replay memory out big few len written room = unchanged replay memory out big few (number_row 21) len written room
 
 -- ---- lines answered one after the other
 

@@ -9,7 +9,7 @@ use Rattle.log_line.specs.declared.Line.TheVariants.{Own, Rx, Sent, Sweep, Unrea
 use Rattle.log_line.specs.Fields.{said}
 use Rattle.log_line.specs.Forms.{line_of}
 use Rattle.call_history.specs.Model.{datagram, ping_sent, sweep}
-use Rattle.call_model.specs.Calls.{answerOn, bytesAfter}
+use Rattle.call_model.specs.Calls.{answer_on, bytes_after}
 use Rattle.call_model.specs.Reading.{reading}
 use Rattle.call_datagram.specs.Received.{received}
 use Rattle.log_answer.specs.AnswerRows.{number_row}
@@ -25,8 +25,8 @@ line_answer st line (Own buckets key) = number_row (own_answer st buckets (said 
 line_answer st line (Rx now unix address port signer bytes) =
     received_row (received st.table now unix (said line address) port (said line signer) (said line bytes))
 line_answer st line (Sent now key address udp tcp hash) =
-    number_row (answerOn reading st.table (ping_sent now (said line key) (said line address) udp tcp (said line hash)))
-line_answer st line (Sweep now) = number_row (answerOn reading st.table (sweep now))
+    number_row (answer_on reading st.table (ping_sent now (said line key) (said line address) udp tcp (said line hash)))
+line_answer st line (Sweep now) = number_row (answer_on reading st.table (sweep now))
 line_answer st line Unreadable = number_row 21
 
 -- after a call the table is what the call leaves
@@ -36,10 +36,10 @@ with_table st s = record { owned = st.owned; table = s }
 unfoldable pub line_after : State → Bytes → Line → State
 line_after st line (Own buckets key) = own_after st buckets (said line key)
 line_after st line (Rx now unix address port signer bytes) =
-    with_table st (bytesAfter reading st.table (datagram now unix (said line address) port (said line signer) (said line bytes)))
+    with_table st (bytes_after reading st.table (datagram now unix (said line address) port (said line signer) (said line bytes)))
 line_after st line (Sent now key address udp tcp hash) =
-    with_table st (bytesAfter reading st.table (ping_sent now (said line key) (said line address) udp tcp (said line hash)))
-line_after st line (Sweep now) = with_table st (bytesAfter reading st.table (sweep now))
+    with_table st (bytes_after reading st.table (ping_sent now (said line key) (said line address) udp tcp (said line hash)))
+line_after st line (Sweep now) = with_table st (bytes_after reading st.table (sweep now))
 line_after st line Unreadable = st
 
 -- a line over the limit is of no form

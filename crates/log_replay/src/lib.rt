@@ -1,4 +1,6 @@
 // The replay of a log, line by line: the table is the first bytes of a lent memory, and a line's answer is written into lent bytes.
+#![tactic(auto)]
+
 ghost use Rattle.std.specs.Prelude.{◌≡◌, ◌≤◌, length};
 ghost use Rattle.octets.specs.Octets.{store};
 ghost use Rattle.log_line.specs.Fields.{said};

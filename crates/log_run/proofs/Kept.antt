@@ -16,7 +16,7 @@ use Rattle.call_history.specs.Model.{Env, Call, datagram, ping_sent, sweep, Tabl
 use Rattle.call_history.specs.Chain.{IsCall}
 use Rattle.call_history.proofs.Step.{keccak_lawful}
 use Rattle.call_history.proofs.Sound.{TableSound, IsTable, fresh_sound, fresh-values, next-sound, next-values}
-use Rattle.call_model.specs.Calls.{answerOn, bytesAfter}
+use Rattle.call_model.specs.Calls.{answer_on, bytes_after}
 use Rattle.call_model.specs.Reading.{reading}
 use Rattle.call_model.specs.OverBytes.{encode}
 use Rattle.call_model.proofs.Step.{step_follows}
@@ -48,7 +48,7 @@ abbrev Step : State → ℕ → Stage → Asked → Type 0
 Step st' n g a = Kept st' (stage_after g a) × (n ≡ number_at g a)
 
 call_step : (st : State) (g : Stage) → Kept st g → (c : Call) → IsCall c
-    → Step (with_table st (bytesAfter reading st.table c)) (answerOn reading st.table c) g (call c)
+    → Step (with_table st (bytes_after reading st.table c)) (answer_on reading st.table c) g (call c)
 unfolding stage_after number_at
 call_step st g (none owned) c is = (rw (no_table_bytes c) (none owned), no_table_number c)
 call_step st g (some key count one most t sound values) c is =

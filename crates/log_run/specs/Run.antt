@@ -1,6 +1,6 @@
 -- The replay of a log and its run by the rules, side by side: the same lines lead to the state of the one and to the stage of the other.
 use Rattle.std.specs.Prelude.{ℕ, ◌≡◌, true}
-use Rattle.call_model.specs.Calls.{answerOn}
+use Rattle.call_model.specs.Calls.{answer_on}
 use Rattle.call_model.specs.Reading.{reading}
 use Rattle.call_model.specs.OverBytes.{encode}
 use Rattle.log_lines.specs.Lines.{Held}
@@ -23,5 +23,5 @@ Shows st (running e t) = st ≡ record { owned = true; table = encode e.own t }
 -- the number that the replay answers with
 abbrev pub number_on : State → Asked → ℕ
 number_on st (own buckets key) = own_answer st buckets key
-number_on st (call c) = answerOn reading st.table c
+number_on st (call c) = answer_on reading st.table c
 number_on st unreadable = 21

@@ -1,4 +1,6 @@
 // The state of a replay: the table is the first bytes of a lent memory, and a line's answer is written into lent bytes.
+#![tactic(auto)]
+
 ghost use Rattle.std.specs.Prelude.{◌≡◌, false, ◌≤◌};
 ghost use Rattle.log_state.specs.State.{size_of};
 
@@ -8,14 +10,14 @@ use bucket::Bucket;
 pub const MEMORY: usize = 46304;
 
 // `owned`: a well-formed `own` has come. `count`: the buckets of the table, 0 where no `own` was accepted.
-#[derive(Drop)]
+#[derive(Clone, Copy)]
 pub struct Replay {
     pub owned: bool,
     pub count: usize,
 }
 
 // A line was answered with `len` bytes.
-#[derive(Drop)]
+#[derive(Clone, Copy)]
 pub struct Stepped {
     pub replay: Replay,
     pub len: usize,

@@ -17,10 +17,10 @@ use Rattle.bucket_model.specs.Rules.{of_key, is_verified, is_overdue}
 use Rattle.bucket_model.proofs.View.{SameAs}
 use Rattle.bucket_lookup.specs.declared.Lookup.{Lookup}
 use Rattle.bucket_lookup.specs.Steps.{only_at, found, in_entries}
-use Rattle.call_history.specs.Model.{Env, Call, datagram, ping_sent, sweep, closest, unclocked, Table, fresh, slot, bucketOf, answer, next}
+use Rattle.call_history.specs.Model.{Env, Call, datagram, ping_sent, sweep, closest, unclocked, Table, fresh, slot, bucket_of, answer, next}
 use Rattle.call_history.proofs.Step.{fresh-bucket}
-use Rattle.call_history.proofs.View.{other-datagram, other-pingSent}
-use Rattle.call_history.specs.Words.{is_pong, entry_of, replacementOf}
+use Rattle.call_history.proofs.View.{other-datagram, other_ping_sent}
+use Rattle.call_history.specs.Words.{is_pong, entry_of, replacement_of}
 use Rattle.call_model.specs.Reading.{reading}
 use Rattle.log_state.specs.State.{State}
 use Rattle.log_own.specs.OwnLine.{own_number}
@@ -125,17 +125,17 @@ module _ (X : Bytes) (l : Lookup) where
         moves =
             rw same (ap (λ b. eqb (answer e t c) 0 && b)
             (ap (λ b. b && (is_pong (reading bytes unix) || any (is_verified now address udp) (found l))) h.seated
-            ∙ seat-found seat (replacementOf e X t) (found l) (few l.position l.entry) h.held (is_pong (reading bytes unix)) (is_verified now address udp)));
+            ∙ seat-found seat (replacement_of e X t) (found l) (few l.position l.entry) h.held (is_pong (reading bytes unix)) (is_verified now address udp)));
         pings = refl;
         overdue = refl;
         number = refl;
       }))
       (λ same. rw same (record { named = sym same; moves = rw same refl; pings = refl; overdue = refl; number = refl }))
 
-  as-pingSent : (g : Stage) (now : ℕ) (key address : Bytes) (udp tcp : ℕ) (hash : Bytes)
+  as_ping_sent : (g : Stage) (now : ℕ) (key address : Bytes) (udp tcp : ℕ) (hash : Bytes)
       → let ask = call (ping_sent now key address udp tcp hash) in As X g ask (acts_of X l (number_at g ask) ask)
   unfolding acts_of acts_by
-  as-pingSent g now key address udp tcp hash =
+  as_ping_sent g now key address udp tcp hash =
       by_test (same_bytes X key)
       (λ same. rw same (record { named = sym same; moves = moves-none g; pings = rw same refl; overdue = refl; number = refl }))
       (λ same. rw same (record { named = sym same; moves = moves-none g; pings = rw same refl; overdue = refl; number = refl }))
@@ -166,7 +166,7 @@ module _ (X : Bytes) (l : Lookup) where
   unfolding acts_of
   acts-as st g k h (own buckets key) = as_own g buckets key
   acts-as st g k h (call (datagram now unix address udp key bytes)) = as-datagram st g k h now unix address udp key bytes
-  acts-as st g k h (call (ping_sent now key address udp tcp hash)) = as-pingSent g now key address udp tcp hash
+  acts-as st g k h (call (ping_sent now key address udp tcp hash)) = as_ping_sent g now key address udp tcp hash
   acts-as st g k h (call (sweep now)) = as-sweep g h now
   acts-as st g k h (call (closest target room)) = as-closest g target room
   acts-as st g k h (call (unclocked c)) = as-unclocked g c
@@ -186,14 +186,14 @@ trail_step X st g k ask l l' h h' t =
 
 module _ (X : Bytes) (l : Lookup) where
   -- as the bucket was
-  as-bucket : (e : Env) (t t' : Table) → SameAs X (bucketOf e t X) (bucketOf e t' X) → Stands X (running e t) l → Stands X (running e t') l
+  as-bucket : (e : Env) (t t' : Table) → SameAs X (bucket_of e t X) (bucket_of e t' X) → Stands X (running e t) l → Stands X (running e t') l
   as-bucket e t t' same h =
       record { seated = h.seated ∙ ap (λ s. not (empty s)) (sym same.entries); held = h.held ∙ ap₂ (λ s p. s ++ p) (sym same.entries) (sym same.replacements) }
 
   -- in a fresh table
   in-fresh : (e : Env) (owned : Bool) → Stands X (before owned) l → Stands X (running e (fresh e)) l
   in-fresh e owned h =
-      let bare : bucketOf e (fresh e) X ≡ no_contents = fresh-bucket e (slot e X) in
+      let bare : bucket_of e (fresh e) X ≡ no_contents = fresh-bucket e (slot e X) in
       record { seated = rw bare h.seated; held = rw bare h.held }
 
   after-own : (st : State) (g : Stage) → Kept st g → Stands X g l → (buckets : ℕ) (key : Bytes) → Stands X (stage_after g (own buckets key)) l
@@ -217,7 +217,7 @@ module _ (X : Bytes) (l : Lookup) where
       let e : Env = rules_for count owner in
       by_test (same_bytes X key)
       (λ same. never (rw same at quiet))
-      (λ same. as-bucket e t (next e t (ping_sent now key address udp tcp hash)) (other-pingSent e t sound.sized X key same now address udp tcp hash) h)
+      (λ same. as-bucket e t (next e t (ping_sent now key address udp tcp hash)) (other_ping_sent e t sound.sized X key same now address udp tcp hash) h)
   after_call st g (some owner count one most t sound values) h n (sweep now) quiet = never quiet
   after_call st g (some owner count one most t sound values) h n (closest target room) quiet =
       let e : Env = rules_for count owner in

@@ -24,8 +24,8 @@ use Rattle.table_model.specs.Facts.{SoundTable}
 use Rattle.table_model.proofs.Header.{header-sound}
 use Rattle.table_model.proofs.Table.{length-table}
 use Rattle.table_model.proofs.Sound.{all-below, sized-table}
-use Rattle.call_history.specs.Model.{Env, Table, bucketNumber, slot, bucketOf}
-use Rattle.call_model.specs.Calls.{envOf, bucketFor}
+use Rattle.call_history.specs.Model.{Env, Table, bucket_number, slot, bucket_of}
+use Rattle.call_model.specs.Calls.{env_of, bucket_for}
 use Rattle.call_model.specs.Reading.{reading}
 use Rattle.call_model.specs.OverBytes.{encode}
 use Rattle.call_model.proofs.Form.{slot_below, table-form, reads}
@@ -48,22 +48,22 @@ module _ (s key : Bytes) {own hash : Bytes} {bits count : ℕ} (eo : own ≡ own
   is-bits : bits ≡ bit_length (distance (own_of s) (keccak256 key))
   is-bits = eb ∙ ap (λ l. bit_length (distance l hash)) eo ∙ ap (λ l. bit_length (distance (own_of s) l)) eh
 
-  pub first_slot : bits < 257 - count → 0 ≡ slot (envOf reading s) key
-  unfolding bucketNumber
+  pub first_slot : bits < 257 - count → 0 ≡ slot (env_of reading s) key
+  unfolding bucket_number
   first_slot h = omega (arith, is-bits, ec)
 
-  pub own-slot : 257 - count ≤ bits → bits - (257 - count) ≡ slot (envOf reading s) key
-  unfolding bucketNumber
+  pub own-slot : 257 - count ≤ bits → bits - (257 - count) ≡ slot (env_of reading s) key
+  unfolding bucket_number
   own-slot h = omega (arith, is-bits, ec)
 
 -- of a sound table every slot is sound, also that of a key whose bucket isn't kept
-pub sound_slot : (s key : Bytes) → table_sound s ≡ true → SoundAt s (slot (envOf reading s) key)
+pub sound_slot : (s key : Bytes) → table_sound s ≡ true → SoundAt s (slot (env_of reading s) key)
 unfolding table_sound buckets_sound
 sound_slot s key ok =
     let h : header_sound s ≡ true = and_left (header_sound s) (buckets_sound s) ok in
     let header = header-sound s h in
-    let below : slot (envOf reading s) key < count_of s = slot_below (envOf reading s) header.one header.most key in
-    record { header = h; kept = below; bucket = all-below (count_of s) (bucket_sound s) (and_right (header_sound s) (buckets_sound s) ok) (slot (envOf reading s) key) below }
+    let below : slot (env_of reading s) key < count_of s = slot_below (env_of reading s) header.one header.most key in
+    record { header = h; kept = below; bucket = all-below (count_of s) (bucket_sound s) (and_right (header_sound s) (buckets_sound s) ok) (slot (env_of reading s) key) below }
 
 -- ---- the table in the memory
 
@@ -91,7 +91,7 @@ stands_nowhere X replay memory z {l} h p r =
 
 -- where it is looked up in its bucket
 looked : (X : Bytes) (st : State) (g : Stage) → Kept st g → (s : Bytes) → s ≡ st.table → table_sound s ≡ true
-    → (b : Bucket) → Shows b (bucketFor reading s X) → (l : Lookup) → LooksUp X (contents b) l → Stands X g l
+    → (b : Bucket) → Shows b (bucket_for reading s X) → (l : Lookup) → LooksUp X (contents b) l → Stands X g l
 unfolding table_sound
 looked X st g (none owned) s e ok b h l found-there =
     let header = header-sound s (and_left (header_sound s) (buckets_sound s) ok) in
@@ -99,12 +99,12 @@ looked X st g (none owned) s e ok b h l found-there =
 looked X st g (some key count one most t sound values) s e ok b h l found-there =
     let own : Bytes = keccak256 key in
     let form : SoundTable own t.clock t.buckets = table-form reading own count one (omega arith) t sound values in
-    let back : bucketFor reading (encode own t) X ≡ bucketOf (rules_for count key) t X = rw sound.sized at (reads reading own t form X (λ e clock m. m)) in
-    let holds : contents b ≡ bucketOf (rules_for count key) t X = shown b (bucketFor reading s X) h ∙ ap (λ r. bucketFor reading r X) e ∙ back in
-    let there : LooksUp X (bucketOf (rules_for count key) t X) l = rw holds at found-there in
+    let back : bucket_for reading (encode own t) X ≡ bucket_of (rules_for count key) t X = rw sound.sized at (reads reading own t form X (λ e clock m. m)) in
+    let holds : contents b ≡ bucket_of (rules_for count key) t X = shown b (bucket_for reading s X) h ∙ ap (λ r. bucket_for reading r X) e ∙ back in
+    let there : LooksUp X (bucket_of (rules_for count key) t X) l = rw holds at found-there in
     record { seated = there.has_entry; held = there.held }
 
 pub stands_looked : (X : Bytes) (replay : Replay) (memory : Bytes) (s : Bytes) → s ≡ (state_of replay memory).table → table_sound s ≡ true
-    → (b : Bucket) → Shows b (bucketFor reading s X) → (l : Lookup) → LooksUp X (contents b) l
+    → (b : Bucket) → Shows b (bucket_for reading s X) → (l : Lookup) → LooksUp X (contents b) l
     → (p : Past) → SameLines (state_of replay memory) p → Stands X p.stage l
 stands_looked X replay memory s e ok b h l there p r = looked X (state_of replay memory) p.stage (kept r) s e ok b h l there

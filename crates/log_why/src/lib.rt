@@ -1,10 +1,12 @@
 // Why a node is or isn't in the table at a log's end. The log is followed line by line as a replay follows it, and of the node is carried where it
 // stands and what its trail says.
+#![tactic(auto)]
+
 ghost use Rattle.std.specs.Prelude.{◌≡◌, true, false, cond, ◌+◌, ◌^◌, ◌≤◌, ◌<◌, length};
 ghost use Rattle.octets.specs.Octets.{Bytes};
 ghost use Rattle.table_model.specs.Layout.{header_sound};
 ghost use Rattle.call_history.specs.Model as model;
-ghost use Rattle.call_model.specs.Calls.{envOf};
+ghost use Rattle.call_model.specs.Calls.{env_of};
 ghost use Rattle.call_model.specs.Reading.{reading};
 ghost use Rattle.log_lines.specs.Lines.{whole, too_long};
 ghost use Rattle.log_state.specs.State.{state_of};
@@ -40,7 +42,7 @@ fn nowhere() -> Lookup
 // The slot of a key's bucket, or of the first one where its own isn't kept.
 fn slot_of(table: &[u8], key: &[u8]) -> usize
     requires { header_sound table.now ≡ true }
-    ensures { result ≡ model.slot (envOf reading table.now) key.now }
+    ensures { result ≡ model.slot (env_of reading table.now) key.now }
 {
     let hash = keccak::keccak256(key);
     let own = table::own_hash(table);
@@ -173,7 +175,7 @@ pub fn reason_of(trail: Trail) -> Reason
 // ---- one line after the other
 
 // The replay, where the node stands in its table, and its trail.
-#[derive(Drop)]
+#[derive(Clone, Copy)]
 pub struct Tracked {
     pub replay: Replay,
     pub place: Lookup,

@@ -1,18 +1,20 @@
 // The two clocks; nodes, their endpoints and addresses.
+#![tactic(auto)]
+
 ghost use Rattle.std.specs.Prelude.{◌≡◌};
 ghost use Rattle.node.specs.Nodes.{no_node, is_address_size};
 
 // Document 01's box milliseconds: a clock that never goes back. Pings and proofs are timed by it.
-#[derive(Drop)]
+#[derive(Clone, Copy)]
 pub struct MonotonicMillis(pub u64);
 
 // Document 01's packet Unix seconds: a clock that may jump either way. Only expiration reads it.
-#[derive(Drop)]
+#[derive(Clone, Copy)]
 pub struct UnixSeconds(pub u64);
 
 // The first `len` bytes of `address` are the IP address.
 #[repr(C)]
-#[derive(Drop)]
+#[derive(Clone, Copy)]
 pub struct Endpoint {
     pub len: u8,
     pub address: [u8; 16],
@@ -22,7 +24,7 @@ pub struct Endpoint {
 
 // A node record, as lists of nodes have it.
 #[repr(C)]
-#[derive(Drop)]
+#[derive(Clone, Copy)]
 pub struct Node {
     pub key: [u8; 64],
     pub endpoint: Endpoint,

@@ -1,4 +1,5 @@
 // Document 01's answer numbers by name. The lowest that applies is given; docs/NUMBERS.md says when each does.
+#![tactic(auto)]
 
 pub const DONE: u8 = 0;
 

@@ -68,45 +68,45 @@ limits type.EnrResponse = (tt, (tt, tt))
 -- the items of data, as the readers meet them: the payload of the data's list lies in g
 module _ (g : Bytes) (base : ℕ) (sl : Slice g) (fits : base ≤ length g) where
   -- the data, the payload of its list, and where that begins
-  abbrev pub bytesFrom : Bytes
-  bytesFrom = drop base g
+  abbrev pub bytes_from : Bytes
+  bytes_from = drop base g
 
   abbrev pub payload : Bytes
-  payload = bytes_of bytesFrom (span_of 0 bytesFrom)
+  payload = bytes_of bytes_from (span_of 0 bytes_from)
 
   abbrev pub start : ℕ
-  start = base + (span_of 0 bytesFrom).start
+  start = base + (span_of 0 bytes_from).start
 
   pub payload-lies : Lies g start payload
-  payload-lies = lies-inner g base bytesFrom (lies_drop g base fits) 0
+  payload-lies = lies-inner g base bytes_from (lies_drop g base fits) 0
 
-  slice-data : Slice bytesFrom
+  slice-data : Slice bytes_from
   slice-data = slice_drop base g sl
 
-  pub small_items : (is : List Item) → Begins bytesFrom is → Small is
-  small_items is b = small_data bytesFrom is (omega (arith, slice-data.size)) b
+  pub small_items : (is : List Item) → Begins bytes_from is → Small is
+  small_items is b = small_data bytes_from is (omega (arith, slice-data.size)) b
 
-  pub payload-items : (is : List Item) → Begins bytesFrom is → payload ≡ encodes is
-  payload-items is b = data_payload bytesFrom is (small_items is b) b
+  pub payload-items : (is : List Item) → Begins bytes_from is → payload ≡ encodes is
+  payload-items is b = data_payload bytes_from is (small_items is b) b
 
   -- accepted exactly if the data begins with the encoding of values of the schema's kinds
-  pub read-good : (t : PacketType) → Accepted (required_of t) (schema_of t) bytesFrom → read_as t base bytesFrom ≡ parsed.Packet (packet_of t start payload)
+  pub read-good : (t : PacketType) → Accepted (required_of t) (schema_of t) bytes_from → read_as t base bytes_from ≡ parsed.Packet (packet_of t start payload)
   unfolding read_as
-  read-good t a = rw (accepted_good (required_of t) (schema_of t) bytesFrom slice-data (limits t) a)
+  read-good t a = rw (accepted_good (required_of t) (schema_of t) bytes_from slice-data (limits t) a)
 
-  pub good-read : (t : PacketType) (y : Packet) → read_as t base bytesFrom ≡ parsed.Packet y → Accepted (required_of t) (schema_of t) bytesFrom × (packet_of t start payload ≡ y)
+  pub good-read : (t : PacketType) (y : Packet) → read_as t base bytes_from ≡ parsed.Packet y → Accepted (required_of t) (schema_of t) bytes_from × (packet_of t start payload ≡ y)
   unfolding read_as
   good-read t y e =
-      let r = answered_good (verdict (required_of t) (schema_of t) bytesFrom) (packet_of t start payload) y e in
-      (good_accepted (required_of t) (schema_of t) bytesFrom slice-data r.0, r.1)
+      let r = answered_good (verdict (required_of t) (schema_of t) bytes_from) (packet_of t start payload) y e in
+      (good_accepted (required_of t) (schema_of t) bytes_from slice-data r.0, r.1)
 
   -- accepted with the fields f exactly if encoded: from what the items show, what they need, and the values that are read
   pub both : {P F : Type 0} (t : PacketType) (C : P → Packet) → ((p q : P) → C p ≡ C q → p ≡ q)
       → (made : P) → packet_of t start payload ≡ C made → (fields_of : P → F) (Encoded : F → Type 0)
-      → (Accepted (required_of t) (schema_of t) bytesFrom → (f : F) × Encoded f)
-      → ((f : F) → Encoded f → Accepted (required_of t) (schema_of t) bytesFrom)
+      → (Accepted (required_of t) (schema_of t) bytes_from → (f : F) × Encoded f)
+      → ((f : F) → Encoded f → Accepted (required_of t) (schema_of t) bytes_from)
       → ((f : F) → Encoded f → fields_of made ≡ f)
-      → (f : F) → ((p : P) × (read_as t base bytesFrom ≡ parsed.Packet (C p)) × (fields_of p ≡ f)) ↔ Encoded f
+      → (f : F) → ((p : P) × (read_as t base bytes_from ≡ parsed.Packet (C p)) × (fields_of p ≡ f)) ↔ Encoded f
   both t C inj made is fields_of Encoded forth back values f = (
     (λ r.
         let a = good-read t (C r.0) r.1 in

@@ -27,7 +27,7 @@ use Rattle.packet.specs.declared.FindNode.{FindNode}
 use Rattle.packet.specs.declared.EnrRequest.{EnrRequest}
 use Rattle.packet.specs.declared.EnrResponse.{EnrResponse}
 use Rattle.packet.proofs.Values.{bytes-is, uint-is, present-is, absent-is, whole_is, address_is, udp-is, tcp_is, from_is}
-use Rattle.packet.proofs.Accepted.{bytesFrom, payload, start, payload-lies, small_items, payload-items, both}
+use Rattle.packet.proofs.Accepted.{bytes_from, payload, start, payload-lies, small_items, payload-items, both}
 
 -- ---- the optional enr-seq
 
@@ -63,7 +63,7 @@ missing e = absurd (omega arith)
 
 module _ (g : Bytes) (base : ℕ) (sl : Slice g) (fits : base ≤ length g) where
   abbrev d : Bytes
-  d = bytesFrom g base sl fits
+  d = bytes_from g base sl fits
 
   abbrev s : Bytes
   s = payload g base sl fits

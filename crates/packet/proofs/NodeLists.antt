@@ -17,13 +17,13 @@ use Rattle.packet.specs.declared.PacketType.TheVariants as type
 use Rattle.packet.specs.declared.Packet.TheVariants as packet
 use Rattle.packet.specs.declared.Parsed.TheVariants as parsed
 use Rattle.packet.specs.declared.Neighbors.{Neighbors}
-use Rattle.packet.proofs.Accepted.{bytesFrom, payload, start, small_items, both}
+use Rattle.packet.proofs.Accepted.{bytes_from, payload, start, small_items, both}
 use Rattle.packet.proofs.Inversion.{fits_64, fits-any, missing, bytes-at, uint-at}
 use Rattle.packet.proofs.Nodes.{node_in, items_of_nodes, nodes_good, all_nodes, nodes_read, nodes_size}
 
 module _ (g : Bytes) (base : ℕ) (sl : Slice g) (fits : base ≤ length g) where
   abbrev d : Bytes
-  d = bytesFrom g base sl fits
+  d = bytes_from g base sl fits
 
   found : Accepted 2 (schema_of type.Neighbors) d → (f : NeighborsFields) × NeighborsEncoded d f
   found a = go a.items a.begins a.shapes

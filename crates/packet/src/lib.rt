@@ -1,4 +1,6 @@
 // The six packets of the discv4 wire protocol, read from the data after the 98-byte head.
+#![tactic(auto)]
+
 ghost use Rattle.std.specs.Prelude.{◌≡◌, ◌+◌, ◌≤◌, ◌<◌, ◌^◌, length, take};
 ghost use Rattle.packet_span.specs.Parts as span;
 ghost use Rattle.packet_fields.specs.Spans.{span_of};
@@ -11,14 +13,14 @@ use packet_model::EnrSeq;
 use packet_span::{Span, bytes_of, moved};
 
 // The address in `from`: an empty one is unknown.
-#[derive(Drop)]
+#[derive(Clone, Copy)]
 pub enum SenderAddress {
     Unknown,
     Known(Span),
 }
 
 // The endpoint `from`.
-#[derive(Drop)]
+#[derive(Clone, Copy)]
 pub struct Sender {
     pub address: SenderAddress,
     pub udp: u16,
@@ -26,7 +28,7 @@ pub struct Sender {
 }
 
 // An endpoint as it stands in a datagram.
-#[derive(Drop)]
+#[derive(Clone, Copy)]
 pub struct EndpointSpan {
     pub address: Span,
     pub udp: u16,
@@ -34,13 +36,13 @@ pub struct EndpointSpan {
 }
 
 // The endpoint `to`, whose TCP port is not a field.
-#[derive(Drop)]
+#[derive(Clone, Copy)]
 pub struct Recipient {
     pub address: Span,
     pub udp: u16,
 }
 
-#[derive(Drop)]
+#[derive(Clone, Copy)]
 pub struct Ping {
     pub version: u64,
     pub from: Sender,
@@ -49,7 +51,7 @@ pub struct Ping {
     pub enr_seq: EnrSeq,
 }
 
-#[derive(Drop)]
+#[derive(Clone, Copy)]
 pub struct Pong {
     pub to: Recipient,
     pub ping_hash: Span,
@@ -57,32 +59,32 @@ pub struct Pong {
     pub enr_seq: EnrSeq,
 }
 
-#[derive(Drop)]
+#[derive(Clone, Copy)]
 pub struct FindNode {
     pub target: Span,
     pub expiration: u64,
 }
 
 // `nodes` is the payload of the list of nodes: see `packet_fields::node_count` and `packet_fields::node_at`.
-#[derive(Drop)]
+#[derive(Clone, Copy)]
 pub struct Neighbors {
     pub nodes: Span,
     pub expiration: u64,
 }
 
-#[derive(Drop)]
+#[derive(Clone, Copy)]
 pub struct EnrRequest {
     pub expiration: u64,
 }
 
 // `record` is the record with its header.
-#[derive(Drop)]
+#[derive(Clone, Copy)]
 pub struct EnrResponse {
     pub request_hash: Span,
     pub record: Span,
 }
 
-#[derive(Drop)]
+#[derive(Clone, Copy)]
 pub enum Packet {
     Ping(Ping),
     Pong(Pong),
@@ -93,13 +95,13 @@ pub enum Packet {
 }
 
 // What reading finds: the packet, or the answer's number.
-#[derive(Drop)]
+#[derive(Clone, Copy)]
 pub enum Parsed {
     Packet(Packet),
     Refused(u8),
 }
 
-#[derive(Drop)]
+#[derive(Clone, Copy)]
 pub enum PacketType {
     Ping,
     Pong,
@@ -110,7 +112,7 @@ pub enum PacketType {
 }
 
 // What a type byte says.
-#[derive(Drop)]
+#[derive(Clone, Copy)]
 pub enum TypeByte {
     Known(PacketType),
     Unknown,

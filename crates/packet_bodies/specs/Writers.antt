@@ -16,15 +16,15 @@ abbrev pub can_ping : Bytes → Bytes → Bool
 can_ping from to = is_sender_address from && is_address to
 
 abbrev pub ping_body : Bytes → ℕ → ℕ → Bytes → ℕ → ℕ → EnrSeq → Bytes
-ping_body from fromUdp fromTcp to toUdp expiration e =
-    body 1 (ping_items 4 (endpoint from fromUdp fromTcp) (endpoint to toUdp 0) expiration (enr_seq_items e))
+ping_body from from_udp_port from_tcp_port to to_udp_port expiration e =
+    body 1 (ping_items 4 (endpoint from from_udp_port from_tcp_port) (endpoint to to_udp_port 0) expiration (enr_seq_items e))
 
 -- 2 Pong: the third item of `to` 0
 abbrev pub can_pong : Bytes → Bytes → Bool
 can_pong to hash = is_address to && eqb (length hash) 32
 
 abbrev pub pong_body : Bytes → ℕ → Bytes → ℕ → EnrSeq → Bytes
-pong_body to toUdp hash expiration e = body 2 (pong_items (endpoint to toUdp 0) hash expiration (enr_seq_items e))
+pong_body to to_udp_port hash expiration e = body 2 (pong_items (endpoint to to_udp_port 0) hash expiration (enr_seq_items e))
 
 -- 3 FindNode
 abbrev pub can_find_node : Bytes → Bool

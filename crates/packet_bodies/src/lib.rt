@@ -1,4 +1,6 @@
 // What the writers of packets share: the start of a body, and the parts that more than one packet has.
+#![tactic(auto)]
+
 ghost use Rattle.std.specs.Prelude.{◌≡◌, true, ◌∷◌, ◌+◌, ◌≤◌, ◌<◌, ◌^◌, length};
 ghost use Rattle.node.specs.Nodes.{is_address, is_address_size};
 ghost use Rattle.rlp.specs.Encoding.{header, encode, encodes};
@@ -14,7 +16,7 @@ use packet_model::EnrSeq;
 pub const TO_TCP: u16 = 0;
 
 // The first `len` of `nodes`.
-#[derive(Drop)]
+#[derive(Clone, Copy)]
 pub struct NodeList {
     pub len: usize,
     pub nodes: [Node; 16],

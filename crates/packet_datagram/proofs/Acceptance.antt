@@ -70,9 +70,9 @@ module _ (g : Bytes) (t : PacketType) (e : get_or g 97 0 ≡ byte_of t) where
     | no l ↦ absurd (some_byte t (sym e ∙ get_or-eq_default g 0 {n = 97} (omega arith)))
   ]
 
-  read_as : packet_in g ≡ read_as t 98 (drop 98 g)
+  reads_as : packet_in g ≡ read_as t 98 (drop 98 g)
   unfolding packet_in
-  read_as = ap (λ (x : TypeByte). read_typed x 98 (drop 98 g)) (ap type_of e ∙ type-of t)
+  reads_as = ap (λ (x : TypeByte). read_typed x 98 (drop 98 g)) (ap type_of e ∙ type-of t)
 
 -- ---- accepted
 
@@ -86,37 +86,37 @@ module _ (g : Bytes) (sl : Slice g) where
     where
       go : (p : Packet) → packet_in g ≡ parsed.Packet p → get_or g 97 0 ≡ byte_of (type_in p) → EncodedIn g (fields_of g p)
       go (packet.Ping p) e b =
-          record { type_byte = b; begins = (ping-accepted g 98 sl (long-enough g type.Ping b) (ping_fields g p)).0 (p, sym (read_as g type.Ping b) ∙ e, refl) }
+          record { type_byte = b; begins = (ping-accepted g 98 sl (long-enough g type.Ping b) (ping_fields g p)).0 (p, sym (reads_as g type.Ping b) ∙ e, refl) }
       go (packet.Pong p) e b =
-          record { type_byte = b; begins = (pong-accepted g 98 sl (long-enough g type.Pong b) (pong_fields g p)).0 (p, sym (read_as g type.Pong b) ∙ e, refl) }
+          record { type_byte = b; begins = (pong-accepted g 98 sl (long-enough g type.Pong b) (pong_fields g p)).0 (p, sym (reads_as g type.Pong b) ∙ e, refl) }
       go (packet.FindNode p) e b =
-          record { type_byte = b; begins = (find-node-accepted g 98 sl (long-enough g type.FindNode b) (find_node_fields g p)).0 (p, sym (read_as g type.FindNode b) ∙ e, refl) }
+          record { type_byte = b; begins = (find-node-accepted g 98 sl (long-enough g type.FindNode b) (find_node_fields g p)).0 (p, sym (reads_as g type.FindNode b) ∙ e, refl) }
       go (packet.Neighbors p) e b =
-          record { type_byte = b; begins = (neighbors-accepted g 98 sl (long-enough g type.Neighbors b) (neighbors_fields g p)).0 (p, sym (read_as g type.Neighbors b) ∙ e, refl) }
+          record { type_byte = b; begins = (neighbors-accepted g 98 sl (long-enough g type.Neighbors b) (neighbors_fields g p)).0 (p, sym (reads_as g type.Neighbors b) ∙ e, refl) }
       go (packet.EnrRequest p) e b =
-          record { type_byte = b; begins = (enr-request-accepted g 98 sl (long-enough g type.EnrRequest b) (enr_request_fields p)).0 (p, sym (read_as g type.EnrRequest b) ∙ e, refl) }
+          record { type_byte = b; begins = (enr-request-accepted g 98 sl (long-enough g type.EnrRequest b) (enr_request_fields p)).0 (p, sym (reads_as g type.EnrRequest b) ∙ e, refl) }
       go (packet.EnrResponse p) e b =
-          record { type_byte = b; begins = (enr-response-accepted g 98 sl (long-enough g type.EnrResponse b) (enr_response_fields g p)).0 (p, sym (read_as g type.EnrResponse b) ∙ e, refl) }
+          record { type_byte = b; begins = (enr-response-accepted g 98 sl (long-enough g type.EnrResponse b) (enr_response_fields g p)).0 (p, sym (reads_as g type.EnrResponse b) ∙ e, refl) }
 
   reads : (f : Fields) → EncodedIn g f → Reads g f
   reads (ping f) h =
       let a = (ping-accepted g 98 sl (long-enough g type.Ping h.type_byte) f).1 h.begins in
-      record { packet = packet.Ping a.0; is = read_as g type.Ping h.type_byte ∙ a.1; fields = ap ping a.2 }
+      record { packet = packet.Ping a.0; is = reads_as g type.Ping h.type_byte ∙ a.1; fields = ap ping a.2 }
   reads (pong f) h =
       let a = (pong-accepted g 98 sl (long-enough g type.Pong h.type_byte) f).1 h.begins in
-      record { packet = packet.Pong a.0; is = read_as g type.Pong h.type_byte ∙ a.1; fields = ap pong a.2 }
+      record { packet = packet.Pong a.0; is = reads_as g type.Pong h.type_byte ∙ a.1; fields = ap pong a.2 }
   reads (find_node f) h =
       let a = (find-node-accepted g 98 sl (long-enough g type.FindNode h.type_byte) f).1 h.begins in
-      record { packet = packet.FindNode a.0; is = read_as g type.FindNode h.type_byte ∙ a.1; fields = ap find_node a.2 }
+      record { packet = packet.FindNode a.0; is = reads_as g type.FindNode h.type_byte ∙ a.1; fields = ap find_node a.2 }
   reads (neighbors f) h =
       let a = (neighbors-accepted g 98 sl (long-enough g type.Neighbors h.type_byte) f).1 h.begins in
-      record { packet = packet.Neighbors a.0; is = read_as g type.Neighbors h.type_byte ∙ a.1; fields = ap neighbors a.2 }
+      record { packet = packet.Neighbors a.0; is = reads_as g type.Neighbors h.type_byte ∙ a.1; fields = ap neighbors a.2 }
   reads (enr_request f) h =
       let a = (enr-request-accepted g 98 sl (long-enough g type.EnrRequest h.type_byte) f).1 h.begins in
-      record { packet = packet.EnrRequest a.0; is = read_as g type.EnrRequest h.type_byte ∙ a.1; fields = ap enr_request a.2 }
+      record { packet = packet.EnrRequest a.0; is = reads_as g type.EnrRequest h.type_byte ∙ a.1; fields = ap enr_request a.2 }
   reads (enr_response f) h =
       let a = (enr-response-accepted g 98 sl (long-enough g type.EnrResponse h.type_byte) f).1 h.begins in
-      record { packet = packet.EnrResponse a.0; is = read_as g type.EnrResponse h.type_byte ∙ a.1; fields = ap enr_response a.2 }
+      record { packet = packet.EnrResponse a.0; is = reads_as g type.EnrResponse h.type_byte ∙ a.1; fields = ap enr_response a.2 }
 
 pub acceptance : Acceptance
 acceptance g sl f = ((λ r. subst (EncodedIn g) r.fields (encoded g sl r.packet r.is)), reads g sl f)
@@ -158,7 +158,7 @@ module _ (g : Bytes) where
 
   answer : (t : PacketType) → get_or g 97 0 ≡ byte_of t → packet_in g ≡ answered (by t) (found t)
   unfolding read_as
-  answer t b = read_as g t b
+  answer t b = reads_as g t b
 
   -- the type of an answer other than 8
   known_by : (x : TypeByte) (y : Parsed) → (parsed.Refused 8 ≡ y → ⊥) → read_typed x 98 d ≡ y → (t : PacketType) × (x ≡ Known t)

@@ -1,5 +1,7 @@
 // A datagram of the discv4 wire protocol: hash (32), signature (65), type (1), data. Each test of document 01 that reads
 // only the datagram is a function here or in the crate packet_envelope; the table's tests go between them.
+#![tactic(auto)]
+
 ghost use Rattle.std.specs.Prelude.{◌≡◌};
 ghost use Rattle.packet_datagram.specs.Datagram.{packet_in, record_of, read_at};
 ghost use Rattle.packet_datagram.specs.Datagram as spec;

@@ -1,4 +1,6 @@
 // A datagram's length, hash and signature.
+#![tactic(auto)]
+
 ghost use Rattle.std.specs.Prelude.{◌≡◌};
 ghost use Rattle.packet_envelope.specs.Envelope.{is_sized, hash_of, signature_of, hash_matches};
 

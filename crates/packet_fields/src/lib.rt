@@ -1,4 +1,6 @@
 // Parts of a datagram by their place: the items of a payload by number, their values, and the nodes of a list of nodes.
+#![tactic(auto)]
+
 ghost use Rattle.std.specs.Prelude.{◌≡◌, length};
 ghost use Rattle.octets.specs.Octets as octets;
 ghost use Rattle.packet_span.specs.Parts.{bytes_of};

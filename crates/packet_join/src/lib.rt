@@ -1,4 +1,6 @@
 // The join of a signature and a body into a datagram.
+#![tactic(auto)]
+
 ghost use Rattle.std.specs.Prelude.{◌≡◌};
 ghost use Rattle.written.specs.Written.{written, written_in};
 ghost use Rattle.packet_join.specs.Join.{can_join, datagram};

@@ -1,4 +1,6 @@
 // What one item of a packet's data must be: an integer, a string, an endpoint, a node, a record.
+#![tactic(auto)]
+
 ghost use Rattle.std.specs.Prelude.{◌≡◌, ◌≤◌, [], take};
 ghost use Rattle.rlp.specs.Encoding.{item_of};
 ghost use Rattle.packet_kinds.specs.Payload.{items_of};
@@ -7,7 +9,7 @@ ghost use Rattle.packet_kinds.specs.Kinds as spec;
 use rlp::{Header, Uint};
 
 // What an item must be.
-#[derive(Drop)]
+#[derive(Clone, Copy)]
 pub enum Kind {
     // An integer of at most this.
     Uint(u64),
@@ -28,7 +30,7 @@ pub enum Kind {
 }
 
 // Whether items are what a schema asks.
-#[derive(Drop)]
+#[derive(Clone, Copy)]
 pub enum Verdict {
     Good,
     // An item that is not whole or not canonical: answer 9.

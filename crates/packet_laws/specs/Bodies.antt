@@ -33,12 +33,12 @@ pad_node n =
 
 -- the fields of what each writer takes; a Ping is of version 4, and an empty `from` is unknown
 abbrev pub ping_written : Bytes → ℕ → ℕ → Bytes → ℕ → ℕ → EnrSeq → Fields
-ping_written from fromUdp fromTcp to toUdp x e =
+ping_written from from_udp_port from_tcp_port to to_udp_port x e =
     fields.ping
-    (record { version = 4; from_address = sender.from_said from; from_udp = fromUdp; from_tcp = fromTcp; to_address = to; to_udp = toUdp; expiration = x; enr-seq = e })
+    (record { version = 4; from_address = sender.from_said from; from_udp = from_udp_port; from_tcp = from_tcp_port; to_address = to; to_udp = to_udp_port; expiration = x; enr-seq = e })
 
 abbrev pub pong_written : Bytes → ℕ → Bytes → ℕ → EnrSeq → Fields
-pong_written to toUdp hash x e = fields.pong (record { to_address = to; to_udp = toUdp; ping-hash = hash; expiration = x; enr-seq = e })
+pong_written to to_udp_port hash x e = fields.pong (record { to_address = to; to_udp = to_udp_port; ping-hash = hash; expiration = x; enr-seq = e })
 
 abbrev pub find_node_written : Bytes → ℕ → Fields
 find_node_written target x = fields.find_node (record { target = target; expiration = x })
@@ -54,11 +54,11 @@ enr_response_written hash r = fields.enr_response (record { request-hash = hash;
 
 -- a body that a writer writes, and its fields
 pub data WrittenBody : Bytes → Fields → Type 0 where
-  ping : (from : Bytes) (fromUdp fromTcp : ℕ) (to : Bytes) (toUdp x : ℕ) (e : EnrSeq)
-      → can_ping from to ≡ true → fromUdp < 2 ^ 16 → fromTcp < 2 ^ 16 → toUdp < 2 ^ 16 → x < 2 ^ 64 → SeqFits e
-      → WrittenBody (ping_body from fromUdp fromTcp to toUdp x e) (ping_written from fromUdp fromTcp to toUdp x e)
-  pong : (to : Bytes) (toUdp : ℕ) (hash : Bytes) (x : ℕ) (e : EnrSeq)
-      → can_pong to hash ≡ true → toUdp < 2 ^ 16 → x < 2 ^ 64 → SeqFits e → WrittenBody (pong_body to toUdp hash x e) (pong_written to toUdp hash x e)
+  ping : (from : Bytes) (from_udp_port from_tcp_port : ℕ) (to : Bytes) (to_udp_port x : ℕ) (e : EnrSeq)
+      → can_ping from to ≡ true → from_udp_port < 2 ^ 16 → from_tcp_port < 2 ^ 16 → to_udp_port < 2 ^ 16 → x < 2 ^ 64 → SeqFits e
+      → WrittenBody (ping_body from from_udp_port from_tcp_port to to_udp_port x e) (ping_written from from_udp_port from_tcp_port to to_udp_port x e)
+  pong : (to : Bytes) (to_udp_port : ℕ) (hash : Bytes) (x : ℕ) (e : EnrSeq)
+      → can_pong to hash ≡ true → to_udp_port < 2 ^ 16 → x < 2 ^ 64 → SeqFits e → WrittenBody (pong_body to to_udp_port hash x e) (pong_written to to_udp_port hash x e)
   find_node : (target : Bytes) (x : ℕ) → can_find_node target ≡ true → x < 2 ^ 64 → WrittenBody (find_node_body target x) (find_node_written target x)
   neighbors : (nodes : NodeList) (x : ℕ) → writable_nodes nodes ≡ true → NodesFit (nodes_in nodes) → x < 2 ^ 64
       → WrittenBody (neighbors_body nodes x) (neighbors_written nodes x)

@@ -1,1 +1,2 @@
 // No code: laws of written packets (specs/ says of which, proofs/ has them).
+#![tactic(auto)]

@@ -1,9 +1,11 @@
 // The six packets of the discv4 wire protocol as RLP items (specs/), and what readers and writers of them share.
+#![tactic(auto)]
+
 ghost use Rattle.std.specs.Prelude.{◌≡◌};
 ghost use Rattle.packet_model.specs.From.{is_sender_size};
 
 // Ping's and Pong's optional sequence number of the sender's node record.
-#[derive(Drop)]
+#[derive(Clone, Copy)]
 pub enum EnrSeq {
     Absent,
     Present(u64),

@@ -1,9 +1,11 @@
 // A reply to a FindNode: the packets that its nodes take, at most twelve in each.
+#![tactic(auto)]
+
 ghost use Rattle.std.specs.Prelude.{◌≡◌};
 ghost use Rattle.packet_reply.specs.Reply.{reply_count, reply_part};
 
 // The nodes of one packet: `len` of them from `start` on.
-#[derive(Drop)]
+#[derive(Clone, Copy)]
 pub struct Part {
     pub start: usize,
     pub len: usize,

@@ -1,4 +1,6 @@
 // What the items of a packet's data must be, by one mechanism for all packets: a schema is a list of kinds, one for each item.
+#![tactic(auto)]
+
 ghost use Rattle.std.specs.Prelude.{◌≡◌, ◌≤◌, take};
 ghost use Rattle.rlp.specs.Encoding.{item_of};
 ghost use Rattle.packet_kinds.specs.Payload.{items_of};

@@ -1,10 +1,12 @@
 // A part of a byte string by its place: of a datagram, or of a log's line.
+#![tactic(auto)]
+
 ghost use Rattle.std.specs.Prelude.{◌≡◌, ◌+◌, ◌<◌, ◌^◌};
 ghost use Rattle.packet_span.specs.Parts.{bytes_of};
 ghost use Rattle.packet_span.specs.Parts as spec;
 
 // `len` bytes from `start` on.
-#[derive(Drop)]
+#[derive(Clone, Copy)]
 pub struct Span {
     pub start: usize,
     pub len: usize,

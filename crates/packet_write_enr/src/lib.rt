@@ -1,4 +1,6 @@
 // Writers of ENRRequest and ENRResponse into lent room.
+#![tactic(auto)]
+
 ghost use Rattle.std.specs.Prelude.{◌≡◌, true};
 ghost use Rattle.packet_bodies.specs.Writers.{is_record, enr_request_body, can_enr_response, enr_response_body};
 ghost use Rattle.written.specs.Written.{written, written_in};

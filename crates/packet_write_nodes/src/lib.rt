@@ -1,4 +1,6 @@
 // Writers of FindNode and Neighbors into lent room.
+#![tactic(auto)]
+
 ghost use Rattle.std.specs.Prelude.{◌≡◌};
 ghost use Rattle.packet_bodies.specs.Parts.{writable_nodes};
 ghost use Rattle.packet_bodies.specs.Writers.{can_find_node, find_node_body, neighbors_body};

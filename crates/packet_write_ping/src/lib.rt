@@ -1,4 +1,6 @@
 // The writer of Ping into lent room.
+#![tactic(auto)]
+
 ghost use Rattle.std.specs.Prelude.{◌≡◌};
 ghost use Rattle.packet_bodies.specs.Writers.{can_ping, ping_body};
 ghost use Rattle.written.specs.Written.{written, written_in};

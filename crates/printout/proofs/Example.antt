@@ -13,7 +13,7 @@ use Rattle.table_model.proofs.Sound.{count-back, clock-back, buckets-back}
 use Rattle.printout_entry.specs.EntryRow.{entry_row}
 use Rattle.printout.specs.TableRow.{table_word, entry_total, replacement_total, table_row}
 use Rattle.printout.specs.Printout.{entry_rows, bucket_rows, buckets_rows, printout}
-use Rattle.printout.specs.Claims.{exampleBuckets, first_row, second_row, Example}
+use Rattle.printout.specs.Claims.{example_buckets, first_row, second_row, Example}
 
 abbrev pub printed : ℕ → List Contents → Bytes
 printed clock buckets =
@@ -25,9 +25,9 @@ pub printout_of : (own : Bytes) (clock : ℕ) (buckets : List Contents) → Soun
 unfolding printout table_row
 printout_of own clock buckets f = rw (count-back own clock buckets f, clock-back own clock buckets f, buckets-back own clock buckets f)
 
-rows : (rest hash : Bytes) → printed 250 (exampleBuckets rest hash) ≡ first_row ++ second_row
+rows : (rest hash : Bytes) → printed 250 (example_buckets rest hash) ≡ first_row ++ second_row
 unfolding digits decimal entry_row entry_rows bucket_rows buckets_rows entry_total replacement_total
 rows rest hash = refl
 
 pub example : Example
-example rest hash own f = printout_of own 250 (exampleBuckets rest hash) f ∙ rows rest hash
+example rest hash own f = printout_of own 250 (example_buckets rest hash) f ∙ rows rest hash

@@ -54,13 +54,13 @@ module _ (d : Bytes) (at : ℕ) (x : Bytes) where
 
 module _ (word : Bytes) (distance : ℕ) (s : Bytes) (from n : ℕ) where
   -- the rows of the entries from index i on
-  abbrev pub rowsBehind : ℕ → Bytes
-  rowsBehind i = entry_rows word distance (i + 1) (behind s from n i)
+  abbrev pub rows_behind : ℕ → Bytes
+  rows_behind i = entry_rows word distance (i + 1) (behind s from n i)
 
-  pub all-rows : rowsBehind 0 ≡ entry_rows word distance 1 (entries_at s from n)
+  pub all-rows : rows_behind 0 ≡ entry_rows word distance 1 (entries_at s from n)
   all-rows = ap (λ (es : List Entry). entry_rows word distance 1 es) (behind_all s from n)
 
-  pub no_rows : (i : ℕ) → i ≤ n → n ≤ i → rowsBehind i ≡ []
+  pub no_rows : (i : ℕ) → i ≤ n → n ≤ i → rows_behind i ≡ []
   unfolding entry_rows
   no_rows i h k =
       let e : i ≡ n = omega arith in
@@ -72,7 +72,7 @@ module _ (word : Bytes) (distance : ℕ) (s : Bytes) (from n : ℕ) where
         let e : i + 1 - 1 ≡ i = omega arith in
         rw e at (behind_turn s from n (i + 1) (omega arith) (omega arith))
 
-    next_row : {e : Entry} → e ≡ decode_entry (part s (from + i * 143) 143) → rowsBehind i ≡ entry_row word distance (i + 1) e ++ rowsBehind (i + 1)
+    next_row : {e : Entry} → e ≡ decode_entry (part s (from + i * 143) 143) → rows_behind i ≡ entry_row word distance (i + 1) e ++ rows_behind (i + 1)
     unfolding entry_rows
     next_row {e} is =
         ap (λ (es : List Entry). entry_rows word distance (i + 1) es) next-entry
@@ -81,9 +81,9 @@ module _ (word : Bytes) (distance : ℕ) (s : Bytes) (from n : ℕ) where
 
     -- the next row is the next to be written
     pub due-row : {d₀ : Bytes} {at : ℕ} {all : List Bytes} {d : Bytes} {next : ℕ} {e : Entry}
-        → e ≡ decode_entry (part s (from + i * 143) 143) → Progress d₀ at all (rowsBehind i ∷ []) d next
-        → Progress d₀ at all (entry_row word distance (i + 1) e ∷ rowsBehind (i + 1) ∷ []) d next
-    due-row {e = e} is p = parted (entry_row word distance (i + 1) e) (rowsBehind (i + 1)) (next_row is) p
+        → e ≡ decode_entry (part s (from + i * 143) 143) → Progress d₀ at all (rows_behind i ∷ []) d next
+        → Progress d₀ at all (entry_row word distance (i + 1) e ∷ rows_behind (i + 1) ∷ []) d next
+    due-row {e = e} is p = parted (entry_row word distance (i + 1) e) (rows_behind (i + 1)) (next_row is) p
 
     module _ (P : Entry → Type 0) (all : All P (behind s from n i)) where
       here-and-behind : P (decode_entry (part s (from + i * 143) 143)) × All P (behind s from n (i + 1))
@@ -98,31 +98,31 @@ module _ (word : Bytes) (distance : ℕ) (s : Bytes) (from n : ℕ) where
 -- ---- the rows of buckets
 
 module _ (s : Bytes) where
-  abbrev pub firstDistance : ℕ
-  firstDistance = 257 - count_of s
+  abbrev pub first_distance : ℕ
+  first_distance = 257 - count_of s
 
   -- the rows of the buckets from a slot on
   abbrev pub rows_from : ℕ → Bytes
-  rows_from slot = buckets_rows (firstDistance + slot) (drop slot (buckets_of s))
+  rows_from slot = buckets_rows (first_distance + slot) (drop slot (buckets_of s))
 
-  pub all-buckets : rows_from 0 ≡ buckets_rows firstDistance (buckets_of s)
-  all-buckets = let e : firstDistance + 0 ≡ firstDistance = omega arith in ap (λ (k : ℕ). buckets_rows k (buckets_of s)) e
+  pub all-buckets : rows_from 0 ≡ buckets_rows first_distance (buckets_of s)
+  all-buckets = let e : first_distance + 0 ≡ first_distance = omega arith in ap (λ (k : ℕ). buckets_rows k (buckets_of s)) e
 
   pub no-buckets : (slot : ℕ) → count_of s ≤ slot → rows_from slot ≡ []
   unfolding buckets_rows
   no-buckets slot h =
-      ap (λ (bs : List Contents). buckets_rows (firstDistance + slot) bs) (drop_of_length-le (buckets_of s) {i = slot} (omega (arith, count_read s)))
+      ap (λ (bs : List Contents). buckets_rows (first_distance + slot) bs) (drop_of_length-le (buckets_of s) {i = slot} (omega (arith, count_read s)))
 
-  next-rows : (slot : ℕ) → slot < count_of s → rows_from slot ≡ bucket_rows (firstDistance + slot) (bucket_at s slot) ++ rows_from (slot + 1)
+  next-rows : (slot : ℕ) → slot < count_of s → rows_from slot ≡ bucket_rows (first_distance + slot) (bucket_at s slot) ++ rows_from (slot + 1)
   unfolding buckets_rows
   next-rows slot h =
-      let e : suc (firstDistance + slot) ≡ firstDistance + (slot + 1) = omega arith in
-      ap (λ (bs : List Contents). buckets_rows (firstDistance + slot) bs) (next-bucket s slot h)
-      ∙ ap (λ (k : ℕ). bucket_rows (firstDistance + slot) (bucket_at s slot) ++ buckets_rows k (drop (slot + 1) (buckets_of s))) e
+      let e : suc (first_distance + slot) ≡ first_distance + (slot + 1) = omega arith in
+      ap (λ (bs : List Contents). buckets_rows (first_distance + slot) bs) (next-bucket s slot h)
+      ∙ ap (λ (k : ℕ). bucket_rows (first_distance + slot) (bucket_at s slot) ++ buckets_rows k (drop (slot + 1) (buckets_of s))) e
 
   -- the next bucket's rows are the next to be written
   pub due-rows : (slot : ℕ) → slot < count_of s → {d₀ : Bytes} {at : ℕ} {all : List Bytes} {d : Bytes} {next distance : ℕ}
-      → distance ≡ firstDistance + slot → Progress d₀ at all (rows_from slot ∷ []) d next
+      → distance ≡ first_distance + slot → Progress d₀ at all (rows_from slot ∷ []) d next
       → Progress d₀ at all (bucket_rows distance (bucket_at s slot) ∷ rows_from (slot + 1) ∷ []) d next
   due-rows slot h {distance = distance} is p =
       parted (bucket_rows distance (bucket_at s slot)) (rows_from (slot + 1))

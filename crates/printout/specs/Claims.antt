@@ -52,8 +52,8 @@ module _ (rest hash : Bytes) where
         hash = hash;
       }
 
-  abbrev pub exampleBuckets : List Contents
-  exampleBuckets = replicate 15 no_contents ++ (record { entries = answered ∷ []; replacements = [] } ∷ [])
+  abbrev pub example_buckets : List Contents
+  example_buckets = replicate 15 no_contents ++ (record { entries = answered ∷ []; replacements = [] } ∷ [])
 
 -- table<TAB>16<TAB>250<TAB>1<TAB>0
 abbrev pub first_row : Bytes
@@ -67,5 +67,5 @@ second_row =
 -- its two rows, whatever the rest of the key and the ping hash are
 abbrev pub Example : Type 0
 Example =
-    (rest hash own : Bytes) → SoundTable own 250 (exampleBuckets rest hash)
-    → printout (encode_table own 250 (exampleBuckets rest hash)) ≡ first_row ++ second_row
+    (rest hash own : Bytes) → SoundTable own 250 (example_buckets rest hash)
+    → printout (encode_table own 250 (example_buckets rest hash)) ≡ first_row ++ second_row

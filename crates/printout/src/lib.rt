@@ -1,4 +1,6 @@
 // The printout of a table in lent bytes, as text.
+#![tactic(auto)]
+
 ghost use Rattle.std.specs.Prelude.{◌≡◌, true, ◌+◌, ◌≤◌, ◌-◌, ◌<◌, length};
 ghost use Rattle.octets.specs.Octets.{store};
 ghost use Rattle.table_model.specs.Layout.{buckets_of, count_of, bucket_at};
@@ -22,7 +24,7 @@ pub fn room_for(buckets: usize) -> usize
 }
 
 // How many entries and how many replacements a table holds.
-#[derive(Drop)]
+#[derive(Clone, Copy)]
 pub struct Totals {
     pub entries: usize,
     pub replacements: usize,

@@ -1,4 +1,6 @@
 // The row of one entry of a printout. Each function writes its text from index `at`, and returns the index after it.
+#![tactic(auto)]
+
 ghost use Rattle.std.specs.Prelude.{◌≡◌, ◌∷◌, ◌+◌, ◌≤◌, length};
 ghost use Rattle.octets.specs.Octets.{store};
 ghost use Rattle.printout_entry.specs.EntryRow.{proof_text, entry_row, HasAddress};

@@ -1,4 +1,6 @@
 // Rows of text: fields parted by tabs, written into lent bytes. Each function writes its text from index `at`, and returns the index after it.
+#![tactic(auto)]
+
 ghost use Rattle.std.specs.Prelude.{◌≡◌, ◌∷◌, ◌+◌, ◌≤◌, length};
 ghost use Rattle.octets.specs.Octets.{store};
 ghost use Rattle.text.specs.Decimals.{decimal};

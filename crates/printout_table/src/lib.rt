@@ -1,4 +1,6 @@
 // What a lent table tells of itself: its numbers, and its printout as text, written into lent bytes.
+#![tactic(auto)]
+
 ghost use Rattle.std.specs.Prelude.{◌≡◌};
 ghost use Rattle.printout_table.specs.Told.{no_state, state_of, printed, printed_in};
 
@@ -6,7 +8,7 @@ use node::MonotonicMillis;
 
 // The answer number, and the numbers of the printout's first row: the clock, how many buckets there are, and how many entries and
 // replacements they hold; zeros where the number isn't 0.
-#[derive(Drop)]
+#[derive(Clone, Copy)]
 pub struct TableState {
     pub number: u8,
     pub clock: MonotonicMillis,
@@ -16,7 +18,7 @@ pub struct TableState {
 }
 
 // The answer number of a printout, and its size.
-#[derive(Drop)]
+#[derive(Clone, Copy)]
 pub struct Printed {
     pub number: u8,
     pub size: usize,

@@ -1,6 +1,8 @@
 // replay [FILE [--progress]]: answers the lines of the log in the file, or of standard input if it is `-` or missing, one line each, and then prints
 // the table if an `own` was accepted. Where the input pauses, what is answered is written. What fails is reported on standard error; a write that
 // fails ends the program. Progress, if that is a terminal or if asked for, and at the end the counts are told there too, in lines that begin with `# `.
+#![tactic(auto)]
+
 ghost use Rattle.std.specs.Prelude.{◌≡◌, true, false, ◌+◌, ◌≤◌, ◌<◌, length};
 ghost use Rattle.log_lines.specs.Steps.{fresh};
 ghost use Rattle.log_state.specs.State.{state_of};
@@ -13,7 +15,7 @@ use log_state::{MEMORY, Replay};
 use replay_counts::Counts;
 use replay_output::{make_room, write_out};
 
-#[derive(Drop)]
+#[derive(Clone, Copy)]
 struct Progress {
     replay: Replay,
     begun: Begun,

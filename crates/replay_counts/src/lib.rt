@@ -1,8 +1,10 @@
 // The counts of a replay, and what is said of them on standard error. Each line of that begins with `# `, as no report of a failure does.
+#![tactic(auto)]
+
 use libc::STDERR_FILENO;
 use std::num::{wrapping_add_u64, wrapping_sub_u64};
 
-#[derive(Drop)]
+#[derive(Clone, Copy)]
 pub struct Counts {
     pub lines: u64,
     // Answered with 0, and with 21. The other lines were refused.

@@ -1,11 +1,13 @@
 // The output of the replay program: gathered in a buffer, and written to standard output when the next answer might find no room.
+#![tactic(auto)]
+
 ghost use Rattle.std.specs.Prelude.{◌+◌, ◌≤◌, length};
 ghost use Rattle.log_answer.specs.AnswerRows.{answer_room};
 
 use libc::STDOUT_FILENO;
 
 // Where the next answer goes, and whether a write before it failed.
-#[derive(Drop)]
+#[derive(Clone, Copy)]
 pub struct Room {
     pub at: usize,
     pub lost: bool,

@@ -75,8 +75,8 @@ encode_list p = refl
 -- ---- integers
 
 -- from 1 to 127, an integer is one byte
-pub encode-uint_one : (n : ℕ) → 0 < n → n < 0x80 → encode (string (uint_bytes n)) ≡ n ∷ []
-encode-uint_one n p h = ap (λ (x : Bytes). encode (string x)) (uint_one n p (omega arith)) ∙ encode-plain n h
+pub encode_uint_one : (n : ℕ) → 0 < n → n < 0x80 → encode (string (uint_bytes n)) ≡ n ∷ []
+encode_uint_one n p h = ap (λ (x : Bytes). encode (string x)) (uint_one n p (omega arith)) ∙ encode-plain n h
 
 -- 0, and any integer from 128 on, has a header of one byte
 pub uint_framed : (n : ℕ) → (0 < n → 0x80 ≤ n) → length (uint_bytes n) ≡ 1 → 0x80 ≤ get_or (uint_bytes n) 0 0
@@ -92,7 +92,7 @@ encode-uint n small h =
 -- the sizes of integers
 pub uint_size_small : (n : ℕ) → n < 0x80 → length (encode (string (uint_bytes n))) ≡ 1
 uint_size_small n h = elim (dec_lt 0 n) [
-  | yes p ↦ ap length (encode-uint_one n p h)
+  | yes p ↦ ap length (encode_uint_one n p h)
   | no z ↦ ap length (encode-uint n (omega arith) (λ p. absurd (omega arith))) ∙ ap (λ (x : Bytes). suc (length x)) (uint-zero n (omega arith))
 ]
 

@@ -1,4 +1,6 @@
 // Strict RLP (Ethereum's encoding): headers, items and integers, read from slices, and their sizes.
+#![tactic(auto)]
+
 ghost use Rattle.std.specs.Prelude.{◌≡◌, ◌+◌, ◌≤◌, ◌<◌, length, drop};
 ghost use Rattle.rlp.specs.Numbers.{uint_bytes};
 ghost use Rattle.rlp.specs.Encoding.{header};
@@ -8,7 +10,7 @@ ghost use Rattle.rlp.specs.Reading as spec;
 use octets::number_at;
 
 // The item at the front of a slice.
-#[derive(Drop)]
+#[derive(Clone, Copy)]
 pub enum Header {
     // Its payload is the `size` bytes after the first `skip`.
     Item {
@@ -175,7 +177,7 @@ pub fn item_offset(s: &[u8], n: usize) -> usize
 }
 
 // The integer that a string's bytes spell.
-#[derive(Drop)]
+#[derive(Clone, Copy)]
 pub enum Uint {
     Value(u64),
     // More than eight bytes, or a leading zero.

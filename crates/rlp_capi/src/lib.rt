@@ -1,4 +1,6 @@
 // A C boundary of `rlp`, for comparison with another implementation (tests/rlp). A slice is a pointer and a length.
+#![tactic(auto)]
+
 ghost use Rattle.std.specs.Prelude.{◌≡◌, ◌+◌, ◌≤◌, length};
 ghost use Rattle.octets.specs.Octets.{store};
 ghost use Rattle.rlp.specs.Numbers.{uint_bytes};

@@ -1,4 +1,6 @@
 // Strict RLP (Ethereum's encoding): headers, strings and integers, written into lent slices.
+#![tactic(auto)]
+
 ghost use Rattle.std.specs.Prelude.{◌≡◌, ◌+◌, ◌≤◌, length};
 ghost use Rattle.octets.specs.Octets.{store};
 ghost use Rattle.rlp.specs.Numbers.{uint_bytes};

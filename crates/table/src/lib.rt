@@ -1,4 +1,6 @@
 // The table in lent bytes: a fresh one, its header, and the bucket that a key touches.
+#![tactic(auto)]
+
 ghost use Rattle.std.specs.Prelude.{◌≡◌, true, ◌+◌, ◌-◌, ◌*◌, ◌≤◌, leb, length};
 ghost use Rattle.octets.specs.Octets.{store, big_endian};
 ghost use Rattle.table_model.specs.Layout.{own_of, clock_of, count_of, header_sound, encode_header};
@@ -97,7 +99,7 @@ pub fn header_sound(bytes: &[u8]) -> bool
 }
 
 // The bucket that a key touches, or why it touches none.
-#[derive(Drop)]
+#[derive(Clone, Copy)]
 pub enum Touched {
     // The key isn't 64 bytes.
     WrongKey,

@@ -49,14 +49,14 @@ module _ {A : Type 0} where
   All-tabulate P (suc n) f h = (h 0 (omega arith), All-tabulate P n (λ i. f (suc i)) (λ i k. h (suc i) (omega arith)))
 
   -- a list by its elements
-  pub tabulate-getD : (n : ℕ) (f : ℕ → A) (l : List A) (d : A) → length l ≡ n → ((i : ℕ) → i < n → f i ≡ get_or l i d) → tabulate n f ≡ l
+  pub tabulate_get_d : (n : ℕ) (f : ℕ → A) (l : List A) (d : A) → length l ≡ n → ((i : ℕ) → i < n → f i ≡ get_or l i d) → tabulate n f ≡ l
   unfolding tabulate
-  tabulate-getD zero f [] d e h = refl
-  tabulate-getD zero f (a ∷ l) d e h = absurd (omega arith)
-  tabulate-getD (suc n) f [] d e h = absurd (omega arith)
-  tabulate-getD (suc n) f (a ∷ l) d e h =
+  tabulate_get_d zero f [] d e h = refl
+  tabulate_get_d zero f (a ∷ l) d e h = absurd (omega arith)
+  tabulate_get_d (suc n) f [] d e h = absurd (omega arith)
+  tabulate_get_d (suc n) f (a ∷ l) d e h =
       let first : f 0 ≡ a = h 0 (omega arith) in
-      let rest : tabulate n (λ i. f (suc i)) ≡ l = tabulate-getD n (λ i. f (suc i)) l d (omega arith) (λ i k. h (suc i) (omega arith)) in
+      let rest : tabulate n (λ i. f (suc i)) ≡ l = tabulate_get_d n (λ i. f (suc i)) l d (omega arith) (λ i k. h (suc i) (omega arith)) in
       ap (λ x. x ∷ tabulate n (λ i. f (suc i))) first ∙ ap (λ m. a ∷ m) rest
 
   -- f gives the byte form of an element, of `size` bytes
@@ -64,51 +64,51 @@ module _ {A : Type 0} where
     abbrev pub Sized : List A → Type 0
     Sized l = All (λ a. length (f a) ≡ size) l
 
-    pub length-flatMap : (l : List A) → Sized l → length (flat_map f l) ≡ length l * size
+    pub length_flat_map : (l : List A) → Sized l → length (flat_map f l) ≡ length l * size
     unfolding flat_map
-    length-flatMap [] h = omega arith
-    length-flatMap (a ∷ l) h = length-append (f a) (flat_map f l) ∙ omega (arith, h.0, length-flatMap l h.1)
+    length_flat_map [] h = omega arith
+    length_flat_map (a ∷ l) h = length-append (f a) (flat_map f l) ∙ omega (arith, h.0, length_flat_map l h.1)
 
     -- the element at an index is read where it stands
-    pub part-flatMap : (l : List A) (i : ℕ) (d : A) → Sized l → i < length l
+    pub part_flat_map : (l : List A) (i : ℕ) (d : A) → Sized l → i < length l
         → (s pre : Bytes) (at : ℕ) → s ≡ pre ++ flat_map f l → length pre ≡ at → part s (at + i * size) size ≡ f (get_or l i d)
     unfolding flat_map
-    part-flatMap [] i d h k s pre at e n = absurd (omega arith)
-    part-flatMap (a ∷ l) zero d h k s pre at e n =
+    part_flat_map [] i d h k s pre at e n = absurd (omega arith)
+    part_flat_map (a ∷ l) zero d h k s pre at e n =
         part_middle s pre (f a) (flat_map f l) (at + 0 * size) size (e ∙ simp append_assoc) (omega arith) h.0
-    part-flatMap (a ∷ l) (suc i) d h k s pre at e n =
+    part_flat_map (a ∷ l) (suc i) d h k s pre at e n =
         let len : length (pre ++ f a) ≡ at + size = length-append pre (f a) ∙ omega (arith, h.0) in
         let place : at + size + i * size ≡ at + suc i * size = omega arith in
-        rw place at (part-flatMap l i d h.1 (omega arith) s (pre ++ f a) (at + size) (e ∙ simp append_assoc) len)
+        rw place at (part_flat_map l i d h.1 (omega arith) s (pre ++ f a) (at + size) (e ∙ simp append_assoc) len)
 
     -- an element stored over the one at an index takes its place
-    pub store-flatMap : (l : List A) (i : ℕ) (b : A) → Sized l → length (f b) ≡ size → i < length l
+    pub store_flat_map : (l : List A) (i : ℕ) (b : A) → Sized l → length (f b) ≡ size → i < length l
         → (pre : Bytes) → store (pre ++ flat_map f l) (length pre + i * size) (f b) ≡ pre ++ flat_map f (set l i b)
     unfolding flat_map
-    store-flatMap [] i b h k j pre = absurd (omega arith)
-    store-flatMap (a ∷ l) zero b h k j pre =
+    store_flat_map [] i b h k j pre = absurd (omega arith)
+    store_flat_map (a ∷ l) zero b h k j pre =
         ap (λ m. store m (length pre + 0 * size) (f b)) (sym (append_assoc pre (f a) (flat_map f l)))
         ∙ store_middle pre (f a) (f b) (flat_map f l) (length pre + 0 * size) (omega arith) (k ∙ sym h.0)
         ∙ append_assoc pre (f b) (flat_map f l)
-    store-flatMap (a ∷ l) (suc i) b h k j pre =
+    store_flat_map (a ∷ l) (suc i) b h k j pre =
         let place : length pre + suc i * size ≡ length (pre ++ f a) + i * size = omega (arith, length-append pre (f a), h.0) in
         let ih : store ((pre ++ f a) ++ flat_map f l) (length (pre ++ f a) + i * size) (f b) ≡ (pre ++ f a) ++ flat_map f (set l i b) =
-        store-flatMap l i b h.1 k (omega arith) (pre ++ f a) in
+        store_flat_map l i b h.1 k (omega arith) (pre ++ f a) in
         ap (λ (n : ℕ). store (pre ++ (f a ++ flat_map f l)) n (f b)) place
         ∙ ap (λ m. store m (length (pre ++ f a) + i * size) (f b)) (sym (append_assoc pre (f a) (flat_map f l)))
         ∙ ih
         ∙ append_assoc pre (f a) (flat_map f (set l i b))
 
     -- bytes are the forms of what is read from them, where each of their parts is
-    pub flatMap-tabulate : (n : ℕ) (g : ℕ → A) (s : Bytes) (at : ℕ) → length s ≡ at + n * size
+    pub flat_map_tabulate : (n : ℕ) (g : ℕ → A) (s : Bytes) (at : ℕ) → length s ≡ at + n * size
         → ((i : ℕ) → i < n → f (g i) ≡ part s (at + i * size) size) → flat_map f (tabulate n g) ≡ drop at s
     unfolding flat_map tabulate part
-    flatMap-tabulate zero g s at e h = sym (drop_of_length-le s {i = at} (omega arith))
-    flatMap-tabulate (suc n) g s at e h =
+    flat_map_tabulate zero g s at e h = sym (drop_of_length-le s {i = at} (omega arith))
+    flat_map_tabulate (suc n) g s at e h =
         let start : at + 0 * size ≡ at = omega arith in
         let first : f (g 0) ≡ take size (drop at s) = h 0 (omega arith) ∙ ap (λ (m : ℕ). take size (drop m s)) start in
         let rest : flat_map f (tabulate n (λ i. g (suc i))) ≡ drop (at + size) s =
-        flatMap-tabulate n (λ i. g (suc i)) s (at + size) (omega arith)
+        flat_map_tabulate n (λ i. g (suc i)) s (at + size) (omega arith)
         (λ i k. let place : at + suc i * size ≡ at + size + i * size = omega arith in
         h (suc i) (omega arith) ∙ ap (λ (m : ℕ). take size (drop m s)) place) in
         ap (λ m. m ++ flat_map f (tabulate n (λ i. g (suc i)))) first

@@ -17,13 +17,13 @@ use Rattle.bucket_model.specs.Contents.{Contents, no_contents, encode_bucket, de
 use Rattle.bucket_model.specs.Sound.{keeps_rules, sound}
 use Rattle.bucket_model.specs.Facts.{IsContents}
 use Rattle.bucket_model.proofs.ByteForm.{decode_encode_bucket, length_bucket}
-use Rattle.bucket_model.proofs.Exact.{sound-has_form}
+use Rattle.bucket_model.proofs.Exact.{sound_has_form}
 use Rattle.bucket_model.proofs.Values.{sound-contents, sound-encoded, decoded-sound}
 use Rattle.table_model.specs.Layout.{encode_header, encode_table, offset_of, number_at, own_of, clock_of, count_of, bucket_bytes, bucket_at, buckets_of, header_sound}
 use Rattle.table_model.specs.Sound.{all_below, bucket_sound, buckets_sound, table_sound}
 pub use Rattle.table_model.specs.Facts.{SoundBucket, SoundTable}
 use Rattle.table_model.specs.Claims.{SoundIsTable, TableOfSound, FormIsSound, FormInjective}
-use Rattle.table_model.proofs.Records.{flatMap-tabulate}
+use Rattle.table_model.proofs.Records.{flat_map_tabulate}
 use Rattle.table_model.proofs.Header.{HeaderSound, header-sound, sound-header, header_form}
 use Rattle.table_model.proofs.Table.{SizedBuckets, count_read, bucket_read, own-table, clock-table, count-table, zeros-table, length-table, bucket-table, buckets-table}
 
@@ -66,7 +66,7 @@ module _ (home : Bytes → Bool) (clock : ℕ) (s : Bytes) (n : length s ≡ 286
 
   pub encoded-bucket : encode_bucket (decode_bucket s) ≡ s
   encoded-bucket =
-      let f = sound-has_form home clock s n bs h in
+      let f = sound_has_form home clock s n bs h in
       ap (λ l. encode_bucket (decode_bucket l)) f.form
       ∙ ap encode_bucket (decode_encode_bucket f.held f.is)
       ∙ sym f.form
@@ -169,7 +169,7 @@ pub table_of_sound : TableOfSound
 unfolding encode_table buckets_of
 table_of_sound s bs h =
     let all : flat_map encode_bucket (buckets_of s) ≡ drop 512 s =
-    flatMap-tabulate encode_bucket 2862 (count_of s) (bucket_at s) s 512 (table_header s h).size
+    flat_map_tabulate encode_bucket 2862 (count_of s) (bucket_at s) s 512 (table_header s h).size
     (λ j k. encoded-bucket (home (own_of s) (number_at (count_of s) j)) (clock_of s) (bucket_bytes s j) (slot-size s h j k)
     (bytes_part s (offset_of j) 2862 bs) (bucket-holds s h j k)) in
     ap (λ (n : ℕ). encode_header (own_of s) (clock_of s) n ++ flat_map encode_bucket (buckets_of s)) (count_read s)

@@ -8,11 +8,11 @@ use borrow.Author.Tests.{ltb-true, ltb-false}
 use lib.Dec.{ltb}
 use lib.ListN.{length, get_or, set, replicate, length-append, length-set}
 use Rattle.octets.specs.Octets.{Bytes, part, store, big_endian}
-use Rattle.octets.proofs.Laws.{part-store_before, part-store-after, part-store}
+use Rattle.octets.proofs.Laws.{part_store_before, part-store-after, part-store}
 use Rattle.lists.proofs.Laws.{by_test}
 use Rattle.bucket_model.specs.Contents.{Contents, no_contents, encode_bucket, decode_bucket}
 use Rattle.table_model.specs.Layout.{encode_header, encode_table, offset_of, own_of, clock_of, count_of, bucket_bytes, bucket_at, buckets_of}
-use Rattle.table_model.proofs.Records.{Sized, length-flatMap, part-flatMap, store-flatMap, length-tabulate, get_d_tabulate, tabulate-getD}
+use Rattle.table_model.proofs.Records.{Sized, length_flat_map, part_flat_map, store_flat_map, length-tabulate, get_d_tabulate, tabulate_get_d}
 use Rattle.table_model.proofs.Header.{length-encode_header, own-header, clock-header, count-header, zeros-header, store-clock}
 
 -- ---- what a store leaves, on any bytes
@@ -20,12 +20,12 @@ use Rattle.table_model.proofs.Header.{length-encode_header, own-header, clock-he
 -- a bucket stored in one slot leaves the header and every other slot
 module _ (s v : Bytes) (j : ℕ) where
   pub header-kept : (at n : ℕ) → at + n ≤ 512 → part (store s (offset_of j) v) at n ≡ part s at n
-  header-kept at n h = part-store_before v s (offset_of j) at n (omega arith)
+  header-kept at n h = part_store_before v s (offset_of j) at n (omega arith)
 
   pub bucket-kept : (i : ℕ) → length v ≡ 2862 → i ≢ j → bucket_bytes (store s (offset_of j) v) i ≡ bucket_bytes s i
   bucket-kept i n ne =
       by_test (ltb i j)
-      (λ h. part-store_before v s (offset_of j) (offset_of i) 2862 (omega (arith, ltb-true i j h)))
+      (λ h. part_store_before v s (offset_of j) (offset_of i) 2862 (omega (arith, ltb-true i j h)))
       (λ h. part-store-after v s (offset_of j) (offset_of i) 2862 (omega (arith, ltb-false i j h, ne)))
 
   pub bucket-stored : length v ≡ 2862 → offset_of (j + 1) ≤ length s → bucket_bytes (store s (offset_of j) v) j ≡ v
@@ -34,7 +34,7 @@ module _ (s v : Bytes) (j : ℕ) where
 -- the clock stored leaves the own hash, the count and every bucket
 module _ (s v : Bytes) (n : length v ≡ 8) where
   pub own-kept : own_of (store s 32 v) ≡ own_of s
-  own-kept = part-store_before v s 32 0 32 (omega arith)
+  own-kept = part_store_before v s 32 0 32 (omega arith)
 
   pub behind-kept : (at m : ℕ) → 40 ≤ at → part (store s 32 v) at m ≡ part s at m
   behind-kept at m h = part-store-after v s 32 at m (omega arith)
@@ -81,12 +81,12 @@ module _ (own : Bytes) (clock : ℕ) (buckets : List Contents) (n : length own �
     unfolding encode_table
     length-table =
         length-append (encode_header own clock (length buckets)) (flat_map encode_bucket buckets)
-        ∙ omega (arith, length-encode_header own clock (length buckets) n, length-flatMap encode_bucket 2862 buckets sized)
+        ∙ omega (arith, length-encode_header own clock (length buckets) n, length_flat_map encode_bucket 2862 buckets sized)
 
     pub bucket-table : (j : ℕ) → j < length buckets → bucket_bytes (encode_table own clock buckets) j ≡ encode_bucket (get_or buckets j no_contents)
     unfolding encode_table
     bucket-table j h =
-        part-flatMap encode_bucket 2862 buckets j no_contents sized h (encode_table own clock buckets)
+        part_flat_map encode_bucket 2862 buckets j no_contents sized h (encode_table own clock buckets)
         (encode_header own clock (length buckets)) 512 refl (length-encode_header own clock (length buckets) n)
 
     -- a bucket is stored: the table with that bucket in its slot
@@ -97,7 +97,7 @@ module _ (own : Bytes) (clock : ℕ) (buckets : List Contents) (n : length own �
         let header : Bytes = encode_header own clock (length buckets) in
         let place : offset_of j ≡ length header + j * 2862 = omega (arith, length-encode_header own clock (length buckets) n) in
         ap (λ (m : ℕ). store (encode_table own clock buckets) m (encode_bucket b)) place
-        ∙ store-flatMap encode_bucket 2862 buckets j b sized k h header
+        ∙ store_flat_map encode_bucket 2862 buckets j b sized k h header
         ∙ ap (λ (m : ℕ). encode_header own clock m ++ flat_map encode_bucket (set buckets j b)) (sym (length-set buckets j b))
 
     -- every bucket is read back
@@ -107,5 +107,5 @@ module _ (own : Bytes) (clock : ℕ) (buckets : List Contents) (n : length own �
     buckets-table h back =
         let s : Bytes = encode_table own clock buckets in
         let count : count_of s ≡ length buckets = count-table h in
-        tabulate-getD (count_of s) (bucket_at s) buckets no_contents (sym count)
+        tabulate_get_d (count_of s) (bucket_at s) buckets no_contents (sym count)
         (λ j k. let k' : j < length buckets = omega arith in ap decode_bucket (bucket-table j k') ∙ back j k')

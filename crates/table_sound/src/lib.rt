@@ -1,4 +1,6 @@
 // Whether a table in lent bytes is sound: one bucket, or all.
+#![tactic(auto)]
+
 ghost use Rattle.std.specs.Prelude.{◌≡◌, true, ◌<◌};
 ghost use Rattle.table_model.specs.Layout.{count_of, header_sound};
 ghost use Rattle.table_model.specs.Sound.{bucket_sound, buckets_sound, table_sound};

@@ -19,6 +19,8 @@
 // lent memory after the call, parted by tabs. An accepted datagram says what the replay prints, with the whole node at the head behind
 // `wait`. An accepted closest call says how many nodes there are, how many distances were worked out, and of each node the first 8 bytes of the
 // key, the address and the ports; and every closest call the Keccak-256 of all sixteen records after it. At the end stand the 22 counts.
+#![tactic(auto)]
+
 ghost use Rattle.std.specs.Prelude.{◌≤◌, length};
 
 mod answers;
@@ -177,7 +179,7 @@ fn run(memory: &mut [u8], counters: Counters, s: &[u8]) -> Counters {
 // ---- the input
 
 // The line that is being read, and the counters so far.
-#[derive(Drop)]
+#[derive(Clone, Copy)]
 struct State {
     line: Line,
     counters: Counters,

@@ -1,5 +1,7 @@
 // Hashes published test vectors, and a byte pattern at lengths around the ends of blocks, and prints one hash a line.
 // The file `stdout` has what an independent implementation gives (tests/keccak/vectors.py).
+#![tactic(auto)]
+
 ghost use Rattle.std.specs.Prelude.{◌≤◌, length};
 
 // Byte i is 7 * i + 3, modulo 256.

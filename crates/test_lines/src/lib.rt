@@ -1,4 +1,6 @@
 // What the programs that run cases share: a case read from its line in hex, its fields, and what is printed.
+#![tactic(auto)]
+
 ghost use Rattle.std.specs.Prelude.{◌≤◌, length};
 
 use libc::STDOUT_FILENO;
@@ -6,7 +8,7 @@ use libc::STDOUT_FILENO;
 // ---- the line of a case
 
 // What is read of a line: `n` bytes, and after an odd number of digits the last one.
-#[derive(Drop)]
+#[derive(Clone, Copy)]
 pub struct Line {
     pub n: usize,
     pub odd: bool,

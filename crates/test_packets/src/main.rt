@@ -6,6 +6,8 @@
 // The line printed is the answer's number, a tab, and in hex the whole room after the call. It holds bytes ee before.
 // Kind 0 is a datagram to read, the first byte string, at the Unix time that stands for the expiration. The line printed is the answer's
 // number, and after 0 the type and the fields, parted by tabs: numbers in decimal, bytes in hex, `-` for no enr-seq.
+#![tactic(auto)]
+
 ghost use Rattle.std.specs.Prelude.{◌+◌, ◌*◌, ◌≤◌, length};
 
 mod reading;

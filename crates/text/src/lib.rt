@@ -1,4 +1,6 @@
 // Text: decimal numbers and hex, written into lent bytes and read, and marks found.
+#![tactic(auto)]
+
 ghost use Rattle.std.specs.Prelude.{◌≡◌, ◌+◌, ◌*◌, ◌≤◌, ◌<◌, length, [], ◌∷◌};
 ghost use Rattle.octets.specs.Octets.{store};
 ghost use Rattle.text.specs.Decimals.{decimal, digits_from, well_begun, decimal_of};
@@ -48,7 +50,7 @@ pub fn put_marked(buf: &mut [u8], at: usize, mark: u8, n: u64) -> usize
 }
 
 // What a text says as a decimal.
-#[derive(Drop)]
+#[derive(Clone, Copy)]
 pub enum Decimal {
     Value(u64),
     // Not digits, a leading zero, empty, or over the limit.

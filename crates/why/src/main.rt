@@ -1,5 +1,7 @@
 // why KEY [FILE]: tells in one line why the node with the key is or isn't in the table at the end of the log in the file, or of standard input if it
 // is `-` or missing. A text that is no key is answered by 5, and the log isn't opened. What fails is reported on standard error, and then nothing is told.
+#![tactic(auto)]
+
 ghost use Rattle.std.specs.Prelude.{◌≡◌, true, ◌≤◌, ◌<◌, length};
 ghost use Rattle.octets.specs.Octets.{Bytes};
 ghost use Rattle.why.specs.Steps.{Ready, left};
@@ -14,7 +16,7 @@ use replay_output::write_out;
 // No log has more lines.
 const MOST: u64 = 0x7fff_ffff_ffff_ffff;
 
-#[derive(Drop)]
+#[derive(Clone, Copy)]
 struct Progress {
     tracked: Tracked,
     begun: Begun,

@@ -1,9 +1,11 @@
 // The answer of a writer: its number, and how many bytes are written.
+#![tactic(auto)]
+
 ghost use Rattle.std.specs.Prelude.{◌≡◌};
 ghost use Rattle.written.specs.Written.{written_number, written_size};
 
 // The answer of a writer.
-#[derive(Drop)]
+#[derive(Clone, Copy)]
 pub enum Written {
     // Answer 0, with the number of bytes written.
     Done(usize),

@@ -3,7 +3,7 @@ use mathlib.Core.Path.{◌≡◌}
 use borrow.Author.Rules.{rules}
 use Rattle.bucket_model.specs.Contents.{Contents}
 use Rattle.table_model.specs.Layout.{bucket_at}
-use Rattle.call_model.specs.Calls.{envOf}
+use Rattle.call_model.specs.Calls.{env_of}
 use Rattle.call_model.specs.Reading.{packet_reading, reading}
 use Rattle.bucket.proofs.Laws.{of_shown}
 use Rattle.call_touched.proofs.Slots.{fits, written}
@@ -14,13 +14,13 @@ use Rattle.call_datagram.proofs.deliver.Tie as tie
 
 -- the reply, by the table's bytes
 replies : (c : tie.After-on-packet) → let a = c.before.before.before.before.before.before.before.before.args in
-    RepliesTo (envOf reading a.table.now) a.clock.0 a.address.now a.port a.signer.now a.datagram.now a.packet (bucket_at a.table.now a.slot) c.on-packet.result
+    RepliesTo (env_of reading a.table.now) a.clock.0 a.address.now a.port a.signer.now a.datagram.now a.packet (bucket_at a.table.now a.slot) c.on-packet.result
 replies c =
     let a = c.before.before.before.before.before.before.before.before.args in
     let s = a.table.now in
     let b = c.before.before.bucket-in in
-    of_shown (λ (m : Contents). RepliesTo (envOf reading s) a.clock.0 a.address.now a.port a.signer.now a.datagram.now a.packet m c.on-packet.result)
-    b.result (bucket_at s a.slot) b.ensures.0 (c.on-packet.ensures (envOf reading s))
+    of_shown (λ (m : Contents). RepliesTo (env_of reading s) a.clock.0 a.address.now a.port a.signer.now a.datagram.now a.packet m c.on-packet.result)
+    b.result (bucket_at s a.slot) b.ensures.0 (c.on-packet.ensures (env_of reading s))
 
 returns : tie.Need-returns
 returns c =

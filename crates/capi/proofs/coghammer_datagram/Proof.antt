@@ -42,7 +42,7 @@ use denote.Exit.{yes}
 use Rattle.walk.proofs.Call.{Callee, the-contract, Tokens, Owned, Last, calls-known, calls-plain}
 use Rattle.walk.proofs.Facts.{joined, parted, says_all}
 use Rattle.call_history.specs.Model as model
-use Rattle.call_model.specs.Calls.{bytesAfter}
+use Rattle.call_model.specs.Calls.{bytes_after}
 use Rattle.call_model.specs.Reading.{reading}
 use Rattle.call_datagram.specs.Received.{received}
 use Rattle.counters.specs.Counters.{raised}
@@ -101,7 +101,7 @@ module _ {M : Type 1} {𝓤 : Ura M} (𝓛 : Logic 𝓤) (at_mem : Memory → SP
   to-work = record { ended = work.ended; clauses = work.clauses 𝓛 at_mem run; κs = κs; qs = qs; bounds = tt; args = a; vals = vals; ghost = tt }
 
   abbrev Worked : ℕ → List ℕ → Type 0
-  Worked r zs = (r ≡ received_code (received a.0.now a.1.0 a.1.1.0 a.1.1.1.0.now a.1.1.1.1.0 a.1.1.1.1.1.0.now a.1.1.1.1.1.1.0.now)) × (zs ≡ bytesAfter reading a.0.now (model.datagram a.1.0 a.1.1.0 a.1.1.1.0.now a.1.1.1.1.0 a.1.1.1.1.1.0.now a.1.1.1.1.1.1.0.now))
+  Worked r zs = (r ≡ received_code (received a.0.now a.1.0 a.1.1.0 a.1.1.1.0.now a.1.1.1.1.0 a.1.1.1.1.1.0.now a.1.1.1.1.1.1.0.now)) × (zs ≡ bytes_after reading a.0.now (model.datagram a.1.0 a.1.1.0 a.1.1.1.0.now a.1.1.1.1.0 a.1.1.1.1.1.0.now a.1.1.1.1.1.1.0.now))
 
   abbrev to_number : ℕ → Val → Callee 𝓛
   to_number r v = record { ended = number.ended; clauses = number.clauses 𝓛 at_mem run; κs = tt; qs = tt; bounds = tt; args = (r, tt); vals = (v ∷ [], tt); ghost = tt }

@@ -42,7 +42,7 @@ use denote.Exit.{yes}
 use Rattle.walk.proofs.Call.{Callee, the-contract, Tokens, Last, calls-known}
 use Rattle.walk.proofs.Facts.{joined, parted, says_all}
 use Rattle.call_history.specs.Model as model
-use Rattle.call_model.specs.Calls.{answerOn, bytesAfter}
+use Rattle.call_model.specs.Calls.{answer_on, bytes_after}
 use Rattle.call_model.specs.Reading.{reading}
 use Rattle.counters.specs.Counters.{raised}
 use Rattle.counters.specs.declared.Counters.{Counters}
@@ -95,7 +95,7 @@ module _ {M : Type 1} {𝓤 : Ura M} (𝓛 : Logic 𝓤) (at_mem : Memory → SP
   to-work = record { ended = work.ended; clauses = work.clauses 𝓛 at_mem run; κs = κs; qs = qs; bounds = tt; args = a; vals = vals; ghost = tt }
 
   abbrev Worked : ℕ → List ℕ → Type 0
-  Worked r zs = (r ≡ answerOn reading a.0.now (model.sweep a.1.0)) × (zs ≡ bytesAfter reading a.0.now (model.sweep a.1.0))
+  Worked r zs = (r ≡ answer_on reading a.0.now (model.sweep a.1.0)) × (zs ≡ bytes_after reading a.0.now (model.sweep a.1.0))
 
   abbrev to-count : ℕ → Val → Callee 𝓛
   to-count n v = record { ended = count.ended; clauses = count.clauses 𝓛 at_mem run; κs = (κ, tt); qs = (q, tt); bounds = tt; args = (t, (n, tt)); vals = (mut_vals t, (v ∷ [], tt)); ghost = tt }

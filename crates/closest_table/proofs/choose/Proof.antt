@@ -12,7 +12,7 @@ use lib.ListN.{length, get_or}
 use Rattle.octets.specs.Octets.{IsBytes}
 use Rattle.table_model.specs.Layout.{count_of}
 use Rattle.table_model.proofs.Header.{HeaderSound, header-sound}
-use Rattle.closest_table.proofs.Walk.{order, isSound, Turned, no-turn, turned-ordered, is_kept, slot_is, test-is, turn}
+use Rattle.closest_table.proofs.Walk.{order, is_sound, Turned, no-turn, turned-ordered, is_kept, slot_is, test-is, turn}
 use Rattle.closest_table.proofs.Ends.{one-unsound, all-turned}
 use Rattle.closest_table.proofs.choose.Statement.{statement}
 use Rattle.closest_table.proofs.choose.Tie as tie
@@ -56,7 +56,7 @@ visit-requires c κs =
 -- the test of that bucket
 tested : (c : tie.After-visit invariant_loop decreases_loop)
     → c.visit.result.sound
-    ≡ isSound c.before.before.before.before.before.before.args.bytes.now c.before.before.before.before.before.before.args.target
+    ≡ is_sound c.before.before.before.before.before.before.args.bytes.now c.before.before.before.before.before.before.args.target
     (get_or (order c.before.before.before.before.before.before.args.bytes.now c.before.before.before.before.before.before.args.target) c.before.before.loop.k 0)
 tested c =
     let at_order = c.before.before.before.before in

@@ -9,7 +9,7 @@ use Rattle.octets.specs.Octets.{part}
 use Rattle.keccak.specs.Sponge.{keccak256}
 use Rattle.distance.specs.Distance.{distance, in_bucket, home}
 use Rattle.lists.specs.Lists.{all}
-use Rattle.closest_nearest.specs.Sort.{insertAll}
+use Rattle.closest_nearest.specs.Sort.{insert_all}
 use Rattle.closest_nearest.specs.Nearest.{farness, holding, held}
 use Rattle.closest_nearest.proofs.Held.{ordered_all}
 use Rattle.closest_table.specs.Closest.{in_home, candidates_of}
@@ -23,7 +23,7 @@ abbrev invariant_loop : tie.invariant_loop
 invariant_loop bytes at n number target slot own best₀ home₀ distances₀ i₀ best home distances i =
     (i ≤ n)
     × ((home ≡ all (in_home own number) (behind bytes at n i))
-    × ((best ≡ holding (take 16 (insertAll farness (candidates_of target slot i (behind bytes at n i)) (held best₀)))) × (distances + i ≡ n)))
+    × ((best ≡ holding (take 16 (insert_all farness (candidates_of target slot i (behind bytes at n i)) (held best₀)))) × (distances + i ≡ n)))
 
 abbrev decreases_loop : tie.decreases_loop
 decreases_loop bytes at n number target slot own best₀ home₀ distances₀ i₀ best home distances i = i
@@ -84,7 +84,7 @@ returns c =
           ∙ ap (all (in_home args.t4 args.number)) (behind_all s args.at args.n),
       (
         at_loop.loop.invariant.1.1.0
-            ∙ ap (λ i. holding (take 16 (insertAll farness (candidates_of args.target args.slot i (behind s args.at args.n i)) (held args.nearest)))) done
+            ∙ ap (λ i. holding (take 16 (insert_all farness (candidates_of args.target args.slot i (behind s args.at args.n i)) (held args.nearest)))) done
             ∙ ap (λ l. holding (with_bucket args.target args.slot l (held args.nearest))) (behind_all s args.at args.n),
         omega arith,
       ),

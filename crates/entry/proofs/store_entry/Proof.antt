@@ -31,8 +31,8 @@ returns c =
     let at_store_stamp_2 = c.before.before.before.before.before.before.before in
     let at_store_stamp = at_store_stamp_2.before.before.before.before in
     let at_put_number = at_store_stamp.before.before.before.before in
-    let at_store-endpoint = at_put_number.before.before.before.before in
-    let at_put_bytes = at_store-endpoint.before.before.before.before in
+    let at_store_endpoint = at_put_number.before.before.before.before in
+    let at_put_bytes = at_store_endpoint.before.before.before.before in
     let at_ping_stamp = at_put_bytes.before.before.before.before in
     let at_proof_stamp = at_ping_stamp.before in
     let start = at_proof_stamp.before.before.before.before.before in
@@ -41,7 +41,7 @@ returns c =
           at_proof_stamp.proof-stamp.ensures
           at_ping_stamp.ping-stamp.ensures
           at_put_bytes.put-bytes.ensures
-          at_store-endpoint.store-endpoint.ensures
+          at_store_endpoint.store-endpoint.ensures
           at_put_number.put-number.ensures
           at_store_stamp.store-stamp.ensures
           at_store_stamp_2.store-stamp2.ensures

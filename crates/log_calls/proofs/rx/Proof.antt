@@ -1,6 +1,6 @@
 -- `log_replay::rx` meets its contract. Assumes nothing.
 use Rattle.call_history.specs.Model.{datagram}
-use Rattle.call_model.specs.Calls.{bytesAfter}
+use Rattle.call_model.specs.Calls.{bytes_after}
 use Rattle.call_model.specs.Reading.{reading}
 use Rattle.call_datagram.specs.Received.{received}
 use Rattle.log_received.specs.AnswerLine.{received_row}
@@ -16,7 +16,7 @@ put-received-requires c κs = c.before.before.before.before.before.before.before
 returns : tie.Need-returns
 returns c =
     let a = c.before.before.before.before.before.before.before.before.before.before.before.before.before.before.before.before.before.before.before.before.before.before.before.before.before.before.args in
-    answered-three received_row a.out.now (λ x y z. received a.table.now a.clock a.unix x a.port y z) (λ x y z. bytesAfter reading a.table.now (datagram a.clock a.unix x a.port y z))
+    answered-three received_row a.out.now (λ x y z. received a.table.now a.clock a.unix x a.port y z) (λ x y z. bytes_after reading a.table.now (datagram a.clock a.unix x a.port y z))
     (decoded c.before.before.before.before.before.before.before.before.before.before.before.before.before.before.before.before.before.before.before.before.before.decode-field.ensures)
     (decoded c.before.before.before.before.before.before.before.before.before.before.before.before.before.before.before.before.before.before.decode-field2.ensures)
     (decoded c.before.before.before.before.before.before.before.before.before.before.before.before.before.before.before.decode-field3.ensures)

@@ -1,6 +1,6 @@
 -- `log_replay::sent` meets its contract. Assumes nothing.
 use Rattle.call_history.specs.Model.{ping_sent}
-use Rattle.call_model.specs.Calls.{answerOn, bytesAfter}
+use Rattle.call_model.specs.Calls.{answer_on, bytes_after}
 use Rattle.call_model.specs.Reading.{reading}
 use Rattle.log_answer.specs.AnswerRows.{number_row}
 use Rattle.log_line.proofs.Decoded.{decoded}
@@ -15,7 +15,7 @@ put-number-requires c κs = c.before.before.before.before.before.before.before.b
 returns : tie.Need-returns
 returns c =
     let a = c.before.before.before.before.before.before.before.before.before.before.before.before.before.before.before.before.before.before.before.before.before.before.before.before.before.before.args in
-    answered-three number_row a.out.now (λ x y z. answerOn reading a.table.now (ping_sent a.clock x y a.udp a.tcp z)) (λ x y z. bytesAfter reading a.table.now (ping_sent a.clock x y a.udp a.tcp z))
+    answered-three number_row a.out.now (λ x y z. answer_on reading a.table.now (ping_sent a.clock x y a.udp a.tcp z)) (λ x y z. bytes_after reading a.table.now (ping_sent a.clock x y a.udp a.tcp z))
     (decoded c.before.before.before.before.before.before.before.before.before.before.before.before.before.before.before.before.before.before.before.before.before.decode-field.ensures)
     (decoded c.before.before.before.before.before.before.before.before.before.before.before.before.before.before.before.before.before.before.decode-field2.ensures)
     (decoded c.before.before.before.before.before.before.before.before.before.before.before.before.before.before.before.decode-field3.ensures)

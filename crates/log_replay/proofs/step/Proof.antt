@@ -1,7 +1,7 @@
 -- `log_replay::step` meets its contract. Assumes nothing.
 use mathlib.Core.Path.{refl, sym, ◌∙◌}
 use Rattle.call_history.specs.Model.{datagram, ping_sent, sweep}
-use Rattle.call_model.specs.Calls.{answerOn, bytesAfter}
+use Rattle.call_model.specs.Calls.{answer_on, bytes_after}
 use Rattle.call_model.specs.Reading.{reading}
 use Rattle.call_datagram.specs.Received.{received}
 use Rattle.log_line.specs.Fields.{said}
@@ -64,7 +64,7 @@ returns-2 c =
     let g = c.before.before.before.before.before.before.before.before.said2.given.0 in
     let r = c.before.before.before.before.rx in
     by_line a.replay a.line.now a.memory.now a.out.now _ (sym c.before.before.before.before.before.before.before.before.before.before.read-line.ensures ∙ c.before.before.before.before.before.before.before.before.said2.given.1)
-    (called a.replay a.memory.now a.out.now p.0 p.1.1.0 (λ s. received_row (received s g.0 g.1.0 (said a.line.now g.1.1.0) g.1.1.1.0 (said a.line.now g.1.1.1.1.0) (said a.line.now g.1.1.1.1.1.0))) (λ s. bytesAfter reading s (datagram g.0 g.1.0 (said a.line.now g.1.1.0) g.1.1.1.0 (said a.line.now g.1.1.1.1.0) (said a.line.now g.1.1.1.1.1.0))) c.before.before.before.before.before.before.before.before.before.before.before.size.result c.before.before.before.before.before.before.before.before.before.before.before.size.ensures.0
+    (called a.replay a.memory.now a.out.now p.0 p.1.1.0 (λ s. received_row (received s g.0 g.1.0 (said a.line.now g.1.1.0) g.1.1.1.0 (said a.line.now g.1.1.1.1.0) (said a.line.now g.1.1.1.1.1.0))) (λ s. bytes_after reading s (datagram g.0 g.1.0 (said a.line.now g.1.1.0) g.1.1.1.0 (said a.line.now g.1.1.1.1.0) (said a.line.now g.1.1.1.1.1.0))) c.before.before.before.before.before.before.before.before.before.before.before.size.result c.before.before.before.before.before.before.before.before.before.before.before.size.ensures.0
     r.ensures.0 r.ensures.1.0 r.ensures.1.1.0 r.ensures.1.1.1 r.auto.0 refl)
 
 returns-3 : tie.Need-returns-3
@@ -75,7 +75,7 @@ returns-3 c =
     let g = c.before.before.before.before.before.before.before.before.said3.given.0 in
     let r = c.before.before.before.before.sent in
     by_line a.replay a.line.now a.memory.now a.out.now _ (sym c.before.before.before.before.before.before.before.before.before.before.read-line.ensures ∙ c.before.before.before.before.before.before.before.before.said3.given.1)
-    (called a.replay a.memory.now a.out.now p.0 p.1.1.0 (λ s. number_row (answerOn reading s (ping_sent g.0 (said a.line.now g.1.0) (said a.line.now g.1.1.0) g.1.1.1.0 g.1.1.1.1.0 (said a.line.now g.1.1.1.1.1.0)))) (λ s. bytesAfter reading s (ping_sent g.0 (said a.line.now g.1.0) (said a.line.now g.1.1.0) g.1.1.1.0 g.1.1.1.1.0 (said a.line.now g.1.1.1.1.1.0))) c.before.before.before.before.before.before.before.before.before.before.before.size.result c.before.before.before.before.before.before.before.before.before.before.before.size.ensures.0
+    (called a.replay a.memory.now a.out.now p.0 p.1.1.0 (λ s. number_row (answer_on reading s (ping_sent g.0 (said a.line.now g.1.0) (said a.line.now g.1.1.0) g.1.1.1.0 g.1.1.1.1.0 (said a.line.now g.1.1.1.1.1.0)))) (λ s. bytes_after reading s (ping_sent g.0 (said a.line.now g.1.0) (said a.line.now g.1.1.0) g.1.1.1.0 g.1.1.1.1.0 (said a.line.now g.1.1.1.1.1.0))) c.before.before.before.before.before.before.before.before.before.before.before.size.result c.before.before.before.before.before.before.before.before.before.before.before.size.ensures.0
     r.ensures.0 r.ensures.1.0 r.ensures.1.1.0 r.ensures.1.1.1 r.auto.0 refl)
 
 returns-4 : tie.Need-returns-4
@@ -86,7 +86,7 @@ returns-4 c =
     let g = c.before.before.before.before.before.before.before.before.said4.given.0 in
     let r = c.before.before.before.before.sweep in
     by_line a.replay a.line.now a.memory.now a.out.now _ (sym c.before.before.before.before.before.before.before.before.before.before.read-line.ensures ∙ c.before.before.before.before.before.before.before.before.said4.given.1)
-    (called a.replay a.memory.now a.out.now p.0 p.1.1.0 (λ s. number_row (answerOn reading s (sweep g.0))) (λ s. bytesAfter reading s (sweep g.0)) c.before.before.before.before.before.before.before.before.before.before.before.size.result c.before.before.before.before.before.before.before.before.before.before.before.size.ensures.0
+    (called a.replay a.memory.now a.out.now p.0 p.1.1.0 (λ s. number_row (answer_on reading s (sweep g.0))) (λ s. bytes_after reading s (sweep g.0)) c.before.before.before.before.before.before.before.before.before.before.before.size.result c.before.before.before.before.before.before.before.before.before.before.before.size.ensures.0
     r.ensures.0 r.ensures.1.0 r.ensures.1.1.0 r.ensures.1.1.1 r.auto.0 refl)
 
 returns-5 : tie.Need-returns-5

@@ -24,19 +24,19 @@ pub part-part : {A : Type 0} (s : List A) (at n i m : ℕ) → i + m ≤ n → p
 unfolding part
 part-part s at n i m h = part-take n i m (drop at s) h ∙ ap (λ l. take m l) (drop-drop i at s)
 
-part-set_before : {A : Type 0} (s : List A) (at : ℕ) (b : A) (a n : ℕ) → a + n ≤ at → part (set s at b) a n ≡ part s a n
+part_set_before : {A : Type 0} (s : List A) (at : ℕ) (b : A) (a n : ℕ) → a + n ≤ at → part (set s at b) a n ≡ part s a n
 unfolding part
-part-set_before s at b a n h =
+part_set_before s at b a n h =
     let e : at ≡ a + (at - a) = omega arith in
     ap (λ (j : ℕ). part (set s j b) a n) e
     ∙ ap (λ l. take n l) (drop-set-add a s (at - a) b)
     ∙ take-set-le n (drop a s) (at - a) b (omega arith)
 
-pub part-store_before : {A : Type 0} (v s : List A) (at a n : ℕ) → a + n ≤ at → part (store s at v) a n ≡ part s a n
+pub part_store_before : {A : Type 0} (v s : List A) (at a n : ℕ) → a + n ≤ at → part (store s at v) a n ≡ part s a n
 unfolding part
-part-store_before [] s at a n h = refl
-part-store_before (b ∷ v) s at a n h =
-    part-store_before v (set s at b) (suc at) a n (omega arith) ∙ part-set_before s at b a n h
+part_store_before [] s at a n h = refl
+part_store_before (b ∷ v) s at a n h =
+    part_store_before v (set s at b) (suc at) a n (omega arith) ∙ part_set_before s at b a n h
 
 pub part-store-after : {A : Type 0} (v s : List A) (at a n : ℕ) → at + length v ≤ a → part (store s at v) a n ≡ part s a n
 unfolding part

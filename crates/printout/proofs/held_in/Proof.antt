@@ -6,15 +6,15 @@ use lib.ListN.{length, get_or}
 use Rattle.table_model.specs.Layout.{count_of, offset_of, buckets_of}
 use Rattle.printout.specs.TableRow.{entry_total, replacement_total}
 use Rattle.printout.proofs.Slots.{header_in, at-most, slot-in, counts}
-use Rattle.printout.proofs.Counts.{entriesFrom, replacementsFrom, no_entries, no-replacements, next-entries, next-replacements}
+use Rattle.printout.proofs.Counts.{entries_from, replacements_from, no_entries, no-replacements, next-entries, next-replacements}
 use Rattle.printout.proofs.held_in.Statement.{statement}
 use Rattle.printout.proofs.held_in.Tie as tie
 
 abbrev invariant_loop : tie.invariant_loop
 invariant_loop table count entries₀ replacements₀ slot₀ entries replacements slot =
     (slot ≤ count_of table)
-    × ((entries ≤ slot * 16) × (entries + entriesFrom table slot ≡ entry_total (buckets_of table)))
-    × ((replacements ≤ slot * 4) × (replacements + replacementsFrom table slot ≡ replacement_total (buckets_of table)))
+    × ((entries ≤ slot * 16) × (entries + entries_from table slot ≡ entry_total (buckets_of table)))
+    × ((replacements ≤ slot * 4) × (replacements + replacements_from table slot ≡ replacement_total (buckets_of table)))
 
 abbrev decreases_loop : tie.decreases_loop
 decreases_loop table count entries₀ replacements₀ slot₀ entries replacements slot = count - slot

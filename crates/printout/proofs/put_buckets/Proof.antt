@@ -8,7 +8,7 @@ use Rattle.octets.specs.Octets.{Bytes}
 use Rattle.table_model.specs.Layout.{count_of, buckets_of}
 use Rattle.octets.proofs.Progress.{Progress, room, step, renamed}
 use Rattle.printout.specs.Printout.{buckets_rows}
-use Rattle.printout.proofs.Rows.{passed, start-one, finish-one, firstDistance, rows_from, all-buckets, no-buckets, due-rows}
+use Rattle.printout.proofs.Rows.{passed, start-one, finish-one, first_distance, rows_from, all-buckets, no-buckets, due-rows}
 use Rattle.printout.proofs.Slots.{header_in, at-most, bucket-in}
 use Rattle.printout.proofs.put_buckets.Statement.{statement}
 use Rattle.printout.proofs.put_buckets.Tie as tie
@@ -17,7 +17,7 @@ abbrev invariant_loop : tie.invariant_loop
 invariant_loop out₀ at table count first next₀ slot₀ out next slot =
     (slot ≤ count_of table)
     × (length out ≡ length out₀)
-    × Progress out₀ at (buckets_rows (firstDistance table) (buckets_of table) ∷ []) (rows_from table slot ∷ []) out next
+    × Progress out₀ at (buckets_rows (first_distance table) (buckets_of table) ∷ []) (rows_from table slot ∷ []) out next
 
 abbrev decreases_loop : tie.decreases_loop
 decreases_loop out₀ at table count first next₀ slot₀ out next slot = count - slot
@@ -34,7 +34,7 @@ loop-holds c =
     let s = a.table.now in (
       omega arith,
       refl,
-      renamed (ap (λ (r : Bytes). r ∷ []) (sym (all-buckets s))) (start-one a.out.now a.at (buckets_rows (firstDistance s) (buckets_of s)) c.before.before.before.requires.1),
+      renamed (ap (λ (r : Bytes). r ∷ []) (sym (all-buckets s))) (start-one a.out.now a.at (buckets_rows (first_distance s) (buckets_of s)) c.before.before.before.requires.1),
     )
 
 -- the bucket that a turn writes is kept
@@ -71,7 +71,7 @@ returns c =
     let s = a.table.now in
     let l = c.before.loop in
     let none = no-buckets s l.slot (omega (arith, c.loop-test.false, c.before.before.bucket-count.ensures)) in
-    finish-one a.out.now a.at (buckets_rows (firstDistance s) (buckets_of s)) (passed none l.invariant.2)
+    finish-one a.out.now a.at (buckets_rows (first_distance s) (buckets_of s)) (passed none l.invariant.2)
 
 pub put_buckets_spec : {M : Type 1} → statement M
 put_buckets_spec =

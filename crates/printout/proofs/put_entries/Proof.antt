@@ -12,7 +12,7 @@ use Rattle.table_model.proofs.Entries.{behind, behind_all}
 use Rattle.octets.proofs.Progress.{Progress, room, step, renamed}
 use Rattle.printout.specs.Printout.{entry_rows}
 use Rattle.printout_entry.specs.EntryRow.{HasAddress}
-use Rattle.printout.proofs.Rows.{passed, start-one, finish-one, rowsBehind, all-rows, no_rows, due-row, holds-here, holds-behind}
+use Rattle.printout.proofs.Rows.{passed, start-one, finish-one, rows_behind, all-rows, no_rows, due-row, holds-here, holds-behind}
 use Rattle.printout.proofs.put_entries.Statement.{statement}
 use Rattle.printout.proofs.put_entries.Tie as tie
 
@@ -21,7 +21,7 @@ invariant_loop out₀ at word distance table from n next₀ i₀ out next i =
     (i ≤ n)
     × (length out ≡ length out₀)
     × All HasAddress (behind table from n i)
-    × Progress out₀ at (entry_rows word distance 1 (entries_at table from n) ∷ []) (rowsBehind word distance table from n i ∷ []) out next
+    × Progress out₀ at (entry_rows word distance 1 (entries_at table from n) ∷ []) (rows_behind word distance table from n i ∷ []) out next
 
 abbrev decreases_loop : tie.decreases_loop
 decreases_loop out₀ at word distance table from n next₀ i₀ out next i = n - i

@@ -10,7 +10,7 @@ use Rattle.rlp.specs.Numbers.{uint_bytes}
 use Rattle.rlp.specs.Encoding.{encode, string}
 use Rattle.rlp.proofs.Numbers.{uint_bound}
 use Rattle.octets.proofs.Writing.{wrote_one, wrote_cons}
-use Rattle.rlp.proofs.Writing.{encode-uint_one, encode-uint}
+use Rattle.rlp.proofs.Writing.{encode_uint_one, encode-uint}
 use Rattle.rlp_write.proofs.write_uint.Statement.{statement}
 use Rattle.rlp_write.proofs.write_uint.Tie as tie
 
@@ -22,12 +22,12 @@ framed c =
     encode-uint n c.before.before.before.ranges.n.fits test ∙ ap (λ (k : ℕ). (0x80 + k) ∷ uint_bytes n) (sym c.uint-len.ensures)
 
 slice-write-buf : tie.Need-slice-write-buf
-slice-write-buf c = omega (arith, ap length (encode-uint_one c.before.before.before.args.n c.before.if1.true c.if2.true))
+slice-write-buf c = omega (arith, ap length (encode_uint_one c.before.before.before.args.n c.before.if1.true c.if2.true))
 
 returns : tie.Need-returns
 returns c =
     let a = c.before.before.before.args in
-    wrote_one a.buf.now a.at a.n (encode (string (uint_bytes a.n))) (encode-uint_one a.n c.before.if1.true c.if2.true)
+    wrote_one a.buf.now a.at a.n (encode (string (uint_bytes a.n))) (encode_uint_one a.n c.before.if1.true c.if2.true)
 
 cast-buf-2 : tie.Need-overflow-cast-buf-2
 cast-buf-2 c = omega (arith, c.uint-len.ensures, uint_bound c.before.before.before.args.n c.before.before.before.ranges.n.fits)
