@@ -1,5 +1,5 @@
 -- The calls that a burst stands for have values of their types. Assumes nothing.
-use Prim.Native.Nat.{ℕ, zero, suc, ◌*◌}
+use Prim.Native.Nat.{ℕ, zero, suc, ◌+◌, ◌*◌}
 use mathlib.Core.Bool.{Bool, true, false, cond}
 use mathlib.Core.List.{List, []}
 use native.Mathlib.Omega.{arith}
@@ -34,7 +34,7 @@ module _ (b : Burst) (is : IsBurst b) where
       let address = slice_part b.addresses (17 * i) 17 is.addresses in
       let signer = slice_part b.signers (64 * i) 64 is.signers in (
         (is.millis _, is.unix _, address_slice _ address, is.ports _, signer_slice _ signer, slice_part _ _ _ is.buffer),
-        made-from _ _ n,
+        made-from (i + 1) (at + get_or b.lengths i 0) n,
       )
 
   of_test : (t : Bool) (cs : List Call) → All IsCall cs → All IsCall (cond t cs [])

@@ -1,6 +1,6 @@
 -- From the head on, entries are in the order in which they were last put at the tail.
 use Prim.Native.Nat.{ℕ, ◌-◌, ◌<◌, ◌≤◌}
-use mathlib.Core.Path.{◌≡◌, refl, ap, sym, ◌∙◌}
+use mathlib.Core.Path.{◌≡◌, refl, ap, sym, ◌∙◌, subst}
 use mathlib.Core.Logic.{inl, inr}
 use mathlib.Core.Bool.{Bool, true, false, cond, not, ◌&&◌, ◌||◌, and-false}
 use mathlib.Core.List.{List, [], ◌∷◌, ◌++◌, map, append_assoc}
@@ -242,7 +242,9 @@ module _ (e : Env) where
         by_test (empty (held key b))
         (λ g. rw g was)
         (λ g. rw g (Rising-map (Before (the_log r c)) (λ p. cond (is_of key p) (pinged now hash p) p)
-        (λ p q h. rw (same_key p, same_key q) h) b.entries was))
+        (λ p q h.
+        subst (λ k. TailedBefore e (the_log r c) k (cond (is_of key q) (pinged now hash q) q).key) (sym (same_key p))
+        (subst (λ k. TailedBefore e (the_log r c) p.key k) (sym (same_key q)) h)) b.entries was))
 
     swept-order : (now i : ℕ) → Ordered (sweep now) (on_sweep now (bucket_at e r.table i))
     unfolding on_sweep

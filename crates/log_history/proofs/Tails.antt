@@ -1,7 +1,7 @@
 -- A line puts a node at the tail exactly where demand 3 has it so. Assumes nothing.
 use Prim.Native.Nat.{ℕ}
 use mathlib.Core.Path.{◌≡◌, refl}
-use mathlib.Core.Bool.{Bool, true, false, not, ◌&&◌, ◌||◌, and-false, or_false}
+use mathlib.Core.Bool.{Bool, true, false, not, ◌&&◌, ◌||◌, and-false, or-false}
 use mathlib.Core.List.{List, [], append-nil}
 use native.Mathlib.Omega.{arith}
 use lib.Dec.{eqb}
@@ -71,7 +71,7 @@ module _ (e : Env) (s : Table) (ok : TableSound e s) where
   unfolding stage_after
   tails-call X c =
       by_test (empty (entry_of e X s))
-      (λ g. rw (unmoved X g c, g) (or_false _))
+      (λ g. rw (unmoved X g c, g) (or-false _))
       (λ g. rw g (moved X g c))
 
 tails_line : (X : Bytes) (st : Stage) (a : Asked) → SoundStage st → tails X (at st a) ≡ tails_at X st a
