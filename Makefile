@@ -2,7 +2,7 @@
 # make install      copies them with the header, the pkg-config file and the man pages below PREFIX; DESTDIR goes before it
 # make uninstall    removes what `make install` copied
 # make check        the gate: .ci/run
-# make clean        removes what was built, the proofs' results too
+# make clean        removes what was built, and what the checks kept
 PREFIX ?= /usr/local
 DESTDIR ?=
 
@@ -13,9 +13,8 @@ LIBEXEC = $(ROOT)/libexec/coghammer
 MAN = $(ROOT)/share/man
 
 all:
-	@tools/needs rt
-	rt check $(PROGRAMS)
-	rt staticlib capi
+	@tools/needs rt python3
+	tools/build $(PROGRAMS) capi
 
 install:
 	@tools/needs $(PROGRAMS:%=target/bin/%)
@@ -40,6 +39,6 @@ check:
 	.ci/run
 
 clean:
-	rm -rf target
+	rm -rf target crates/*/out
 
 .PHONY: all install uninstall check clean

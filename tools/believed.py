@@ -25,7 +25,7 @@ for path in glob.glob(os.path.join(ROOT, "crates", "*", "specs", "**", "*.antt")
     crate, module = path.split("/")[1], path.split("/specs/")[1][:-5].replace("/", ".")
     if module != "Lib":
         files[crate, module] = path
-CITED = r"Rattle·(\w+?)(?:\.specs|·specs\.specs)\.(\w+)"
+CITED = r"Rattle\.(\w+)\.specs\.(\w+)"
 
 
 def cited(text):
@@ -48,8 +48,10 @@ def contract_cites(crate, name):
 
 def section():
     seen = {key for key in files if key[0] == "discv4"}
-    for crate, name in re.findall(r"pub use (\w+)::(\w+)", read("crates/discv4/src/lib.rt")):
-        seen |= contract_cites(crate, name)
+    for crate, one, several in re.findall(r"pub use (\w+)::(?:(\w+)|\{([^}]*)\})", read("crates/discv4/src/lib.rt")):
+        for name in [one] if one else several.split(","):
+            if name.strip():
+                seen |= contract_cites(crate, name.split()[0])
     todo = list(seen)
     while todo:
         for key in cited(read(files[todo.pop()])) - seen:

@@ -7,7 +7,7 @@
   `NAME::item`                         an item that the crate's sources have
   `a`, `b` (`NAME/specs/File.antt`)    names that stand in that file, which may be a link
   a table's row with a column File     the names in its column Statement stand in one of those files
-  any other `name-of-a-law`, `nameOf`  a name that some source, definition or proof has
+  any other `name_of_a_law`, `NameOf`  a name that some source, definition or proof has
 """
 import glob
 import os
@@ -27,12 +27,14 @@ def read(path):
     return open(os.path.join(ROOT, path), encoding="utf-8").read()
 
 
+CRATES = ("crates/*/src/**/*.rt", "crates/*/specs/**/*.antt", "crates/*/proofs/**/*.antt")
 texts = {}
-for pattern in ("crates/*/src/**/*.rt", "crates/*/specs/**/*.antt", "crates/*/proofs/**/*.antt", "include/*.h", "host/rust/src/*.rs"):
+for pattern in (*CRATES, "include/*.h", "host/rust/src/*.rs", "examples/host/*.c", "tests/reference/src/**/*.rs"):
     for path in glob.glob(os.path.join(ROOT, pattern), recursive=True):
         path = os.path.relpath(path, ROOT)
         texts[path] = set(re.findall(WORD, read(path)))
-known = set().union(*texts.values())
+# a program of the reference has its file's name
+known = set().union(*texts.values(), (os.path.splitext(os.path.basename(path))[0] for path in texts))
 
 
 def paths_of(token):
@@ -70,7 +72,7 @@ def token_fault(page, token):
         if name in crates.deps:
             return not glob.glob(os.path.join(ROOT, "crates", name, "must-fail", rest + ".edit"))
         return not first.startswith("target/") and not exists(page, first)
-    if re.fullmatch(r"[a-z][\w']*(-[\w']+)+|[a-z]+[A-Z]\w*|[A-Z][a-z]+[A-Z]\w*", token):
+    if re.fullmatch(r"[a-z][\w']*(-[\w']+)+|[a-z]\w*_\w+|[a-z]+[A-Z]\w*|[A-Z][a-z]+[A-Z]\w*", token):
         return token not in known
     return False
 

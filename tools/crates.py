@@ -7,11 +7,11 @@ ROOT = os.path.dirname(os.path.dirname(os.path.abspath(__file__)))
 
 
 class Crates:
-    """`deps`: a crate's own dependencies, without the kit's. `group`: its group. `said`: what each group holds, in the order of the file.
-    `about`: a crate's comment. `layer`: the layer that its line stands in."""
+    """`deps`: a crate's own dependencies, without the kit's. `kit`: those of the kit. `static`: the static libraries. `group`: its group. `said`: what each
+    group holds, in the order of the file. `about`: a crate's comment. `layer`: the layer that its line stands in."""
 
     def __init__(self):
-        self.deps, self.group, self.said, self.about, self.layer = {}, {}, {}, {}, {}
+        self.deps, self.kit, self.static, self.group, self.said, self.about, self.layer = {}, {}, set(), {}, {}, {}, {}
         named, layer, comment = {}, -1, ""
         for line in open(os.path.join(ROOT, "crates.txt"), encoding="utf-8"):
             if m := re.match(r"# group (\w+) \((.*)\): (.*)", line):
@@ -21,10 +21,13 @@ class Crates:
                 layer = int(m[1])
             elif line.startswith("# "):
                 comment = line[2:].strip()
-            elif m := re.match(r"(\w+):(.*)", line):
-                self.deps[m[1]], self.about[m[1]], self.layer[m[1]] = m[2].split(), comment, layer
-        for crate in self.deps:
-            self.deps[crate] = [d for d in self.deps[crate] if d in self.deps]
+            elif m := re.match(r"(\w+)((?: [\w=]+)*):(.*)", line):
+                self.deps[m[1]], self.about[m[1]], self.layer[m[1]] = m[3].split("#")[0].split(), comment, layer
+                if "staticlib" in m[2].split():
+                    self.static.add(m[1])
+        for crate, deps in self.deps.items():
+            self.kit[crate] = [d for d in deps if d not in self.deps]
+            self.deps[crate] = [d for d in deps if d in self.deps]
             self.group[crate] = named.get(crate) or crate.split("_")[0]
         for crate in named:
             if crate not in self.deps:
@@ -45,3 +48,10 @@ class Crates:
         for crate, deps in self.deps.items():
             below[self.group[crate]].update(self.group[d] for d in deps if self.group[d] != self.group[crate])
         return below
+
+    def libraries(self, crate):
+        """All crates below a crate."""
+        found = []
+        for dep in self.deps[crate]:
+            found += [d for d in [*self.libraries(dep), dep] if d not in found]
+        return found

@@ -10,7 +10,7 @@
 #include <time.h>
 #include <unistd.h>
 
-void keccak256_into(const uint8_t *message, size_t n, uint8_t *out);
+void coghammer_keccak256(const uint8_t *message, size_t n, uint8_t *out);
 
 enum { TURNS = 5, MOST = 2000, PROGRAMS = 7 };
 
@@ -30,7 +30,7 @@ static double hashing(void) {
     for (int k = 0; k < kinds; k++)
         for (unsigned long i = 0; i < counts[k]; i++) {
             message[0] = out[0];
-            keccak256_into(message, lengths[k], out);
+            coghammer_keccak256(message, lengths[k], out);
         }
     return now() - start;
 }

@@ -1,4 +1,4 @@
-//! Links the library: libcoghammer.a as `make install` leaves it or libcapi.a as `rt staticlib capi` builds it, from
+//! Links the library: libcoghammer.a as `make install` leaves it or libcapi.a as `tools/build capi` builds it, from
 //! the folder that COGHAMMER_LIB names, or from ../../target/staticlib.
 
 use std::env;
@@ -13,7 +13,7 @@ fn main() {
     let Some(name) = found else {
         println!("cargo:rerun-if-changed={}", folder.display());
         eprintln!("coghammer: no libcoghammer.a and no libcapi.a in {}", folder.display());
-        eprintln!("Build it with `rt staticlib capi` in the project's root, or set COGHAMMER_LIB to the folder that has it.");
+        eprintln!("Build it with `tools/build capi` in the project's root, or set COGHAMMER_LIB to the folder that has it.");
         exit(1);
     };
     println!("cargo:rerun-if-changed={}", folder.join(format!("lib{name}.a")).display());
