@@ -1,0 +1,9 @@
+-- `entry::proof_of` meets its contract. Assumes nothing.
+use borrow.Author.Tests.{eq-eqb, ne_eqb}
+use Rattle.entry.proofs.proof_of.Goals as goal
+
+pub returns-then-s-eq0 : goal.returns-then-s-eq0
+returns-then-s-eq0 c = simp (eq-eqb _ _ c.if-s-eq0.true)
+
+pub returns : goal.returns
+returns c = simp (ne_eqb _ _ c.if-s-eq0.false)
