@@ -17,7 +17,7 @@ chi_lane p q r m = xor (xor (xor first p) (and (inverse (xor second q)) (xor thi
 
 pub returns : goal.returns
 unfolding complement complement_before_chi added mask
-returns c = let a = c.args.t1 in
+returns c = let a = c.args.a in
     let fits : (k : ℕ) → Fits w64 (get_or a k 0) = λ k. search rules in
     let lane : (t p q r m : Term) → table t ≡ table (chi_lane p q r m) → (k l n : ℕ)
     → value 64 (get_or a k 0) (get_or a l 0) (get_or a n 0) t ≡ value 64 (get_or a k 0) (get_or a l 0) (get_or a n 0) (chi_lane p q r m) =

@@ -14,7 +14,7 @@ use Rattle.keccak_complement.proofs.complemented.Goals as goal
 
 pub returns : goal.returns
 unfolding complement added mask
-returns c = let a = c.args.t1 in
+returns c = let a = c.args.a in
     let fits : (k : ℕ) → Fits w64 (get_or a k 0) = λ k. search rules in
     let kept : (k : ℕ) → get_or a k 0 ≡ get_or a k 0 ⊕ 0 = λ k. sym (xor_zero_r (get_or a k 0)) in
     let inverted : (k : ℕ) → 2 ^ 64 - 1 - get_or a k 0 ≡ get_or a k 0 ⊕ ones =
