@@ -1,6 +1,6 @@
 -- The program stays ready from line to line. Assumes nothing.
-use Prim.Native.Nat.{◌+◌, ◌^◌, ◌≤◌, ◌<◌}
-use mathlib.Core.Path.{◌≡◌, refl, ap}
+use Prim.Native.Nat.{◌≤◌, ◌<◌}
+use mathlib.Core.Path.{◌≡◌, refl}
 use native.Mathlib.Omega.{arith}
 use lib.ListN.{length}
 use Rattle.octets.specs.Octets.{Bytes}
@@ -12,7 +12,6 @@ use Rattle.log_replay.specs.Steps.{start_replay}
 use Rattle.log_state.specs.State.{start_state, size_of, state_of}
 use Rattle.log_why.specs.declared.Tracked.{Tracked}
 use Rattle.log_why.specs.Tracking.{NotedLine, Starts}
-use Rattle.log_why.specs.Tracking as tracking
 use Rattle.why.specs.declared.Progress.{Progress}
 use Rattle.why.specs.Steps.{Ready}
 
