@@ -7,9 +7,11 @@ ghost use Rattle.std.specs.Prelude.{◌≡◌, true, ◌≤◌, ◌<◌, length}
 ghost use Rattle.log_lines.specs.Steps.{fresh};
 ghost use Rattle.bootnodes.specs.Steps.{Ready, left};
 
-use libc::{STDIN_FILENO, STDOUT_FILENO};
 use log_lines::{Begun, LIMIT, Last, Step};
 use node::Node;
+use programs::Source;
+use std::io::Read;
+use std::{fs, io};
 
 #[derive(Clone, Copy)]
 struct Progress {
@@ -24,39 +26,41 @@ struct Progress {
     more: bool,
 }
 
-// ---- the rows; each function tells whether all was written
+// ---- the rows; each function answers `Ok` if all was written
 
-fn print_tab() -> bool {
-    io::write_all(STDOUT_FILENO, b"\t")
+fn print_tab(rt: &impl Print) -> io::Result<()> {
+    rt.print("\t")
 }
 
-fn print_end() -> bool {
-    io::write_all(STDOUT_FILENO, b"\n")
+fn print_end(rt: &impl Print) -> io::Result<()> {
+    rt.print("\n")
 }
 
 // The first 8 bytes of a key.
-fn print_key(key: [u8; 64]) -> bool {
-    io::print_hex(STDOUT_FILENO, octets::number_at(&key[0..8], 0, 8), 16)
+fn print_key(rt: &impl Print, key: [u8; 64]) -> io::Result<()> {
+    let number = octets::number_at(&key[0..8], 0, 8);
+    print!(rt; "{number:016x}")
 }
 
 // The 4 bytes of an IPv4 address.
-fn print_address(address: [u8; 16]) -> bool {
-    io::print_hex(STDOUT_FILENO, octets::number_at(&address[0..4], 0, 4), 8)
+fn print_address(rt: &impl Print, address: [u8; 16]) -> io::Result<()> {
+    let number = octets::number_at(&address[0..4], 0, 4);
+    print!(rt; "{number:08x}")
 }
 
 // A node's row: key, address, UDP port, TCP port.
-fn print_node(node: Node) -> bool {
+fn print_node(rt: &impl Print, node: Node) -> io::Result<()> {
     let key = node.key;
     let endpoint = node.endpoint;
     let address = endpoint.address;
-    print_key(key)
-        && print_tab()
-        && print_address(address)
-        && print_tab()
-        && io::print_decimal(STDOUT_FILENO, endpoint.udp as u64)
-        && print_tab()
-        && io::print_decimal(STDOUT_FILENO, endpoint.tcp as u64)
-        && print_end()
+    print_key(rt, key)?;
+    print_tab(rt)?;
+    print_address(rt, address)?;
+    print_tab(rt)?;
+    rt.print(endpoint.udp)?;
+    print_tab(rt)?;
+    rt.print(endpoint.tcp)?;
+    print_end(rt)
 }
 
 // The number after `count`. No text has so many lines that it stays the same.
@@ -68,21 +72,21 @@ fn one_more(count: u64) -> u64 {
 }
 
 // The row of how the text ended.
-fn print_ending(count: u64, unfit: bool) -> bool {
+fn print_ending(rt: &impl Print, count: u64, unfit: bool) -> io::Result<()> {
     if unfit {
-        return io::print_decimal(STDOUT_FILENO, 22)
-            && print_tab()
-            && io::print_decimal(STDOUT_FILENO, one_more(count))
-            && print_end();
+        rt.print(22)?;
+        print_tab(rt)?;
+        rt.print(one_more(count))?;
+        return print_end(rt);
     }
-    io::write_all(STDOUT_FILENO, b"complete")
-        && print_tab()
-        && io::print_decimal(STDOUT_FILENO, count)
-        && print_end()
+    rt.print("complete")?;
+    print_tab(rt)?;
+    rt.print(count)?;
+    print_end(rt)
 }
 
-fn report_write() {
-    os::fail(b"standard output");
+fn report_write(rt: &impl Eprint, error: &io::Error) {
+    programs::fail(rt, "standard output", error);
 }
 
 // ---- the lines
@@ -103,7 +107,7 @@ fn stop(count: u64, unfit: bool, next: usize) -> Progress
 }
 
 // Prints the node of a line, after which the chunk goes on at `next`.
-fn take_line(line: &[u8], count: u64, next: usize) -> Progress
+fn take_line(rt: &(impl Print + Eprint), line: &[u8], count: u64, next: usize) -> Progress
     ensures { (result.begun ≡ fresh) × (result.at ≡ next) }
 {
     let enode = enode::read_enode(line);
@@ -111,8 +115,8 @@ fn take_line(line: &[u8], count: u64, next: usize) -> Progress
         return stop(count, true, next);
     }
     let node = enode.node;
-    if !print_node(node) {
-        report_write();
+    if let Err(error) = print_node(rt, node) {
+        report_write(rt, &error);
         return stop(count, false, next);
     }
     let begun = Begun::new();
@@ -127,7 +131,7 @@ fn take_line(line: &[u8], count: u64, next: usize) -> Progress
 }
 
 // Takes the chunk up to its next 0A or its end, and the line that ended.
-fn turn(buffer: &mut [u8], chunk: &[u8], p: Progress) -> Progress
+fn turn(rt: &(impl Print + Eprint), buffer: &mut [u8], chunk: &[u8], p: Progress) -> Progress
     requires { Ready buffer.old p × ((p.at ≤ length chunk.now) × (p.more ≡ true)) }
     ensures ready { Ready buffer.new result }
     ensures on { (result.at ≤ length chunk.now) × (left chunk.now result < left chunk.now p) }
@@ -136,7 +140,7 @@ fn turn(buffer: &mut [u8], chunk: &[u8], p: Progress) -> Progress
     let count = p.count;
     let at = p.at;
     match log_lines::next_line(buffer, begun, chunk, at) {
-        Step::Line { len, next } => take_line(&buffer[0..len], count, next),
+        Step::Line { len, next } => take_line(rt, &buffer[0..len], count, next),
         Step::TooLong { next } => stop(count, true, next),
         Step::More(begun) => Progress {
             begun,
@@ -150,7 +154,7 @@ fn turn(buffer: &mut [u8], chunk: &[u8], p: Progress) -> Progress
 }
 
 // Takes the lines that end in a chunk.
-fn take_chunk(buffer: &mut [u8], chunk: &[u8], p: Progress) -> Progress
+fn take_chunk(rt: &(impl Print + Eprint), buffer: &mut [u8], chunk: &[u8], p: Progress) -> Progress
     requires { Ready buffer.old p }
     ensures { Ready buffer.new result }
 {
@@ -158,57 +162,70 @@ fn take_chunk(buffer: &mut [u8], chunk: &[u8], p: Progress) -> Progress
     q.at = 0;
     q.more = true;
     while q.more {
-        q = turn(buffer, chunk, q);
+        q = turn(rt, buffer, chunk, q);
     }
     q
 }
 
 // Reads one chunk and takes its lines; there is no more at the text's end, after a line that does not fit, or where a read or a write fails.
-fn read_chunk(fd: i32, name: &[u8], buffer: &mut [u8], p: Progress) -> Progress
+fn read_chunk(
+    rt: &(impl Print + Eprint),
+    input: &mut impl Read,
+    name: &str,
+    buffer: &mut [u8],
+    p: Progress,
+) -> Progress
     requires { Ready buffer.old p }
     ensures { Ready buffer.new result }
 {
     let mut q = p;
     q.more = false;
-    let mut chunk = io::large_buffer();
-    let got = libc::read(fd, &mut chunk);
-    if got < 0 {
-        os::fail(name);
-        q.failed = true;
-        return q;
+    let mut chunk = programs::large_buffer();
+    match input.read(&mut chunk) {
+        Err(error) => {
+            programs::fail(rt, name, &error);
+            q.failed = true;
+            q
+        }
+        Ok(0) => q,
+        Ok(n) => {
+            let mut r = take_chunk(rt, buffer, &chunk[0..n], q);
+            r.more = !(r.unfit || r.failed);
+            r
+        }
     }
-    if got == 0 {
-        return q;
-    }
-    let n = io::count(got, &chunk);
-    let mut r = take_chunk(buffer, &chunk[0..n], q);
-    r.more = !(r.unfit || r.failed);
-    r
 }
 
-// Reads the whole text. Nothing says that a text ends: the turns are counted down from a number that no run uses up.
-fn read_text(fd: i32, name: &[u8], buffer: &mut [u8], p: Progress) -> Progress
+// Reads the whole text. Nothing says that a text ends: there are more turns than any run uses up.
+fn read_text(
+    rt: &(impl Print + Eprint),
+    input: &mut impl Read,
+    name: &str,
+    buffer: &mut [u8],
+    p: Progress,
+) -> Progress
     requires { Ready buffer.old p }
     ensures { Ready buffer.new result }
 {
     let mut q = p;
     q.more = true;
-    let mut turns = u64::MAX;
-    while turns > 0 && q.more {
-        q = read_chunk(fd, name, buffer, q);
-        turns -= 1;
+    for _ in 0..u64::MAX {
+        if !q.more {
+            break;
+        }
+        q = read_chunk(rt, input, name, buffer, q);
     }
     q
 }
 
 // Takes a last line without 0A.
-fn take_last(buffer: &[u8], p: Progress) -> Progress
+fn take_last(rt: &(impl Print + Eprint), buffer: &[u8], p: Progress) -> Progress
     requires { Ready buffer.now p }
 {
     let begun = p.begun;
     let count = p.count;
     match log_lines::last_line(begun) {
-        Last::Line { len } => take_line(&buffer[0..len], count, 0),
+        Last::Line { len } => take_line(rt, &buffer[0..len], count, 0),
         Last::TooLong => stop(count, true, 0),
         Last::Nothing => p,
     }
@@ -223,7 +240,7 @@ fn line_buffer() -> [u8; LIMIT]
     [0; LIMIT]
 }
 
-fn print_list(fd: i32, name: &[u8]) {
+fn print_list(rt: &(impl Print + Eprint), input: &mut impl Read, name: &str) {
     let mut buffer = line_buffer();
     let begun = Begun::new();
     let p = Progress {
@@ -234,35 +251,27 @@ fn print_list(fd: i32, name: &[u8]) {
         at: 0,
         more: true,
     };
-    let q = read_text(fd, name, &mut buffer, p);
+    let q = read_text(rt, input, name, &mut buffer, p);
     if q.failed {
         return;
     }
-    let r = take_last(&buffer, q);
+    let r = take_last(rt, &buffer, q);
     if r.failed {
         return;
     }
-    if !print_ending(r.count, r.unfit) {
-        report_write();
+    if let Err(error) = print_ending(rt, r.count, r.unfit) {
+        report_write(rt, &error);
     }
 }
 
-fn main() {
-    if os::arg_count() < 2 {
-        print_list(STDIN_FILENO, b"standard input");
-        return;
+fn main(rt: HostRuntime) {
+    let mut path = programs::buffer();
+    match programs::source_of(&rt, 1, &mut path) {
+        Source::StandardInput => print_list(&rt, &mut rt.reader(), "standard input"),
+        Source::File(path) => match fs::open(&rt, path) {
+            Ok(mut file) => print_list(&rt, &mut file, path),
+            Err(error) => programs::fail(&rt, path, &error),
+        },
+        Source::NoPath => {}
     }
-    let mut path = io::buffer();
-    let length = os::arg(1, &mut path);
-    if os::errno() != 0 {
-        os::fail(b"path");
-        return;
-    }
-    let fd = os::open_read(&path[..length]);
-    if fd < 0 {
-        os::fail(&path[..length]);
-        return;
-    }
-    print_list(fd, &path[..length]);
-    libc::close(fd);
 }

@@ -2,66 +2,48 @@
 // An input of more than 65,535 bytes is refused on standard error; what fails is reported there.
 #![tactic(auto)]
 
-use libc::{STDERR_FILENO, STDIN_FILENO};
+use programs::Source;
+use std::io::Read;
+use std::{fs, io};
 
-#[derive(Clone, Copy)]
-enum Input {
-    // the input's length; at the buffer's own length there may be more
-    Bytes(usize),
-    Failed,
-}
-
-// Reads until the input ends, the buffer is full or a read fails.
-fn read_to_end(fd: i32, buf: &mut [u8]) -> Input {
+// Reads until the input ends, the buffer is full or a read fails; the input's length, and at the buffer's own length there may be more.
+fn read_to_end(input: &mut impl Read, buf: &mut [u8]) -> io::Result<usize> {
     let mut n: usize = 0;
     while n < buf.len() {
-        let got = libc::read(fd, &mut buf[n..]);
-        if got < 0 {
-            return Input::Failed;
-        }
-        let more = io::count(got, &buf[n..]);
+        let more = input.read(&mut buf[n..])?;
         if more == 0 {
-            return Input::Bytes(n);
+            return Ok(n);
         }
         n += more;
     }
-    Input::Bytes(n)
+    Ok(n)
 }
 
 // The buffer is one byte longer than what is hashed, so that a longer input shows.
-fn hash_input(fd: i32, name: &[u8]) {
-    let mut buf = io::large_buffer();
-    match read_to_end(fd, &mut buf) {
-        Input::Failed => os::fail(name),
-        Input::Bytes(n) => {
+fn hash_input(rt: &(impl Print + Eprint), input: &mut impl Read, name: &str) {
+    let mut buf = programs::large_buffer();
+    match read_to_end(input, &mut buf) {
+        Err(error) => programs::fail(rt, name, &error),
+        Ok(n) => {
             if n <= 65535 {
-                if !keccak_print::print_hash(&buf[0..n]) {
-                    os::fail(b"standard output");
+                if let Err(error) = keccak_print::print_hash(rt, &buf[0..n]) {
+                    programs::fail(rt, "standard output", &error);
                 }
             } else {
-                io::write_all(STDERR_FILENO, name);
-                io::write_all(STDERR_FILENO, b": more than 65535 bytes\n");
+                programs::say(rt, format_args!("{name}: more than 65535 bytes\n"));
             }
         }
     }
 }
 
-fn main() {
-    if os::arg_count() < 2 {
-        hash_input(STDIN_FILENO, b"standard input");
-        return;
+fn main(rt: HostRuntime) {
+    let mut path = programs::buffer();
+    match programs::source_of(&rt, 1, &mut path) {
+        Source::StandardInput => hash_input(&rt, &mut rt.reader(), "standard input"),
+        Source::File(path) => match fs::open(&rt, path) {
+            Ok(mut file) => hash_input(&rt, &mut file, path),
+            Err(error) => programs::fail(&rt, path, &error),
+        },
+        Source::NoPath => {}
     }
-    let mut path = io::buffer();
-    let length = os::arg(1, &mut path);
-    if os::errno() != 0 {
-        os::fail(b"path");
-        return;
-    }
-    let fd = os::open_read(&path[..length]);
-    if fd < 0 {
-        os::fail(&path[..length]);
-        return;
-    }
-    hash_input(fd, &path[..length]);
-    libc::close(fd);
 }

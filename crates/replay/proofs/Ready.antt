@@ -1,7 +1,6 @@
 -- The program stays ready from line to line. Assumes nothing.
 use Prim.Native.Nat.{ℕ, ◌+◌, ◌≤◌}
 use mathlib.Core.Path.{◌≡◌, refl, ap}
-use mathlib.Core.Bool.{true}
 use native.Mathlib.Omega.{arith}
 use lib.ListN.{length}
 use Rattle.octets.specs.Octets.{Bytes}
@@ -11,12 +10,16 @@ use Rattle.log_lines.specs.Steps.{fresh}
 use Rattle.log_lines.proofs.Found.{fresh_size}
 use Rattle.log_answer.specs.AnswerRows.{answer_room}
 use Rattle.log_state.specs.declared.Stepped.{Stepped}
-use Rattle.log_state.specs.State.{state_of}
+use Rattle.log_state.specs.State.{start_state, size_of, state_of}
 use Rattle.log_replay.specs.Replay.{after, start, line}
 use Rattle.log_replay.specs.Steps.{start_replay, AnsweredLine}
-use Rattle.log_replay.proofs.Replayed.{start-state}
 use Rattle.replay.specs.declared.Progress.{Progress}
 use Rattle.replay.specs.Steps.{Ready}
+
+-- no line has come
+start_state_is : (memory : Bytes) → state_of start_replay memory ≡ start_state
+unfolding size_of
+start_state_is memory = refl
 
 -- before the first line
 pub at_start : (memory buffer out : Bytes) (p : Progress) → 46304 ≡ length memory → 3000 ≡ length buffer → 65536 ≡ length out
@@ -29,7 +32,7 @@ at_start memory buffer out p em eb eo er e used =
       count = rw er (omega arith);
       line_size = fresh_size p.begun e;
       used_size = omega (arith, used);
-      reached = rw (er, start-state memory) start;
+      reached = rw (er, start_state_is memory) start;
     }
 
 -- a line was answered, at an index of the output with room for it

@@ -4,8 +4,6 @@
 ghost use Rattle.std.specs.Prelude.{◌+◌, ◌≤◌, length};
 ghost use Rattle.log_answer.specs.AnswerRows.{answer_room};
 
-use libc::STDOUT_FILENO;
-
 // Where the next answer goes, and whether a write before it failed.
 #[derive(Clone, Copy)]
 pub struct Room {
@@ -14,16 +12,18 @@ pub struct Room {
 }
 
 // Whether all was written. A failure is reported.
-pub fn write_out(bytes: &[u8]) -> bool {
-    if io::write_all(STDOUT_FILENO, bytes) {
-        return true;
+pub fn write_out(rt: &(impl Print + Eprint), bytes: &[u8]) -> bool {
+    match rt.write_all(bytes) {
+        Ok(()) => true,
+        Err(error) => {
+            programs::fail(rt, "standard output", &error);
+            false
+        }
     }
-    os::fail(b"standard output");
-    false
 }
 
 // Room for the next answer: the output is written out where it might find none.
-pub fn make_room(out: &[u8], used: usize) -> Room
+pub fn make_room(rt: &(impl Print + Eprint), out: &[u8], used: usize) -> Room
     requires { (65536 ≤ length out.now) × (used ≤ length out.now) }
     ensures { result.at + answer_room ≤ length out.now }
 {
@@ -33,7 +33,7 @@ pub fn make_room(out: &[u8], used: usize) -> Room
             lost: false,
         };
     }
-    let written = write_out(&out[0..used]);
+    let written = write_out(rt, &out[0..used]);
     Room {
         at: 0,
         lost: !written,

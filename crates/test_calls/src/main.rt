@@ -27,8 +27,8 @@ mod answers;
 
 use answers::print_answer;
 use counters::Counters;
-use libc::{STDIN_FILENO, STDOUT_FILENO};
 use node::{Endpoint, MonotonicMillis, Node, UnixSeconds};
+use std::io::Read;
 use test_lines::{Line, bytes_at, short};
 
 // Room for a table of 257 buckets, one more than a table can have.
@@ -67,7 +67,7 @@ fn data(s: &[u8]) -> &[u8] {
 
 // ---- the calls
 
-fn run_datagram(table: &mut [u8], counters: Counters, s: &[u8]) -> Counters {
+fn run_datagram(rt: &impl Print, table: &mut [u8], counters: Counters, s: &[u8]) -> Counters {
     let unix = UnixSeconds(test_lines::number(s, 13, 8));
     let port = short(s, 21);
     let after = counted_datagram::datagram_with(
@@ -80,11 +80,11 @@ fn run_datagram(table: &mut [u8], counters: Counters, s: &[u8]) -> Counters {
         key(s),
         data(s),
     );
-    answers::print_received(after.received);
+    answers::print_received(rt, after.received);
     after.counters
 }
 
-fn run_ping_sent(table: &mut [u8], counters: Counters, s: &[u8]) -> Counters {
+fn run_ping_sent(rt: &impl Print, table: &mut [u8], counters: Counters, s: &[u8]) -> Counters {
     let udp = short(s, 21);
     let tcp = short(s, 23);
     let after = counted_ping_sent::ping_sent_with(
@@ -97,13 +97,13 @@ fn run_ping_sent(table: &mut [u8], counters: Counters, s: &[u8]) -> Counters {
         tcp,
         data(s),
     );
-    print_answer(after.number);
+    print_answer(rt, after.number);
     after.counters
 }
 
-fn run_sweep(table: &mut [u8], counters: Counters, s: &[u8]) -> Counters {
+fn run_sweep(rt: &impl Print, table: &mut [u8], counters: Counters, s: &[u8]) -> Counters {
     let after = counted_sweep::sweep_with(counters, table, clock(s));
-    print_answer(after.number);
+    print_answer(rt, after.number);
     after.counters
 }
 
@@ -121,57 +121,57 @@ fn filler() -> Node {
     }
 }
 
-fn run_closest(table: &[u8], s: &[u8]) {
+fn run_closest(rt: &impl Print, table: &[u8], s: &[u8]) {
     let node = filler();
     let listed = closest::closest_with([node; 16], table, key(s));
     let nodes = listed.nodes;
-    answers::print_listed(listed.number, listed.count, listed.distances, nodes);
+    answers::print_listed(rt, listed.number, listed.count, listed.distances, nodes);
 }
 
 // Runs a case on the lent memory, and returns the counters after it.
-fn run_call(table: &mut [u8], counters: Counters, s: &[u8]) -> Counters {
+fn run_call(rt: &impl Print, table: &mut [u8], counters: Counters, s: &[u8]) -> Counters {
     match kind(s) {
         0 => {
-            print_answer(discv4::init(table, key(s), number(s) as usize));
+            print_answer(rt, discv4::init(table, key(s), number(s) as usize));
             counters
         }
-        1 => run_datagram(table, counters, s),
-        2 => run_ping_sent(table, counters, s),
-        3 => run_sweep(table, counters, s),
+        1 => run_datagram(rt, table, counters, s),
+        2 => run_ping_sent(rt, table, counters, s),
+        3 => run_sweep(rt, table, counters, s),
         4 => {
-            run_closest(table, s);
+            run_closest(rt, table, s);
             counters
         }
         5 => {
             test_lines::store(table, number(s) as usize, data(s));
-            print_answer(0);
+            print_answer(rt, 0);
             counters
         }
         6 => {
             let count = discv4::count_of(counters, test_lines::byte(s, 12));
-            io::print_decimal(STDOUT_FILENO, count as u64);
+            test_lines::print_decimal(rt, count as u64);
             counters
         }
         _ => {
-            print_answer(0);
+            print_answer(rt, 0);
             discv4::cleared()
         }
     }
 }
 
-fn run_on(table: &mut [u8], counters: Counters, s: &[u8]) -> Counters {
-    let after = run_call(table, counters, s);
+fn run_on(rt: &impl Print, table: &mut [u8], counters: Counters, s: &[u8]) -> Counters {
+    let after = run_call(rt, table, counters, s);
     let hash = keccak::keccak256(table);
-    test_lines::print_bytes(&hash);
-    io::write_all(STDOUT_FILENO, b"\n");
+    test_lines::print_bytes(rt, &hash);
+    test_lines::print(rt, "\n");
     after
 }
 
 // Runs a case on as many bytes of the memory as it asks for, if they are there.
-fn run(memory: &mut [u8], counters: Counters, s: &[u8]) -> Counters {
+fn run(rt: &impl Print, memory: &mut [u8], counters: Counters, s: &[u8]) -> Counters {
     let n = lent(s);
     if n <= memory.len() {
-        return run_on(&mut memory[..n], counters, s);
+        return run_on(rt, &mut memory[..n], counters, s);
     }
     counters
 }
@@ -186,7 +186,7 @@ struct State {
 }
 
 // Takes one more byte of the input.
-fn take(memory: &mut [u8], case: &mut [u8], state: State, b: u8) -> State
+fn take(rt: &impl Print, memory: &mut [u8], case: &mut [u8], state: State, b: u8) -> State
     requires { state.line.n ≤ length case.old }
     ensures { result.line.n ≤ length case.old }
 {
@@ -194,7 +194,7 @@ fn take(memory: &mut [u8], case: &mut [u8], state: State, b: u8) -> State
     let counters = state.counters;
     if b == b'\n' {
         let n = line.n;
-        let after = run(memory, counters, &case[..n]);
+        let after = run(rt, memory, counters, &case[..n]);
         return State {
             line: Line::new(),
             counters: after,
@@ -206,44 +206,38 @@ fn take(memory: &mut [u8], case: &mut [u8], state: State, b: u8) -> State
     }
 }
 
-fn feed(memory: &mut [u8], case: &mut [u8], state: State, bytes: &[u8]) -> State
+fn feed(rt: &impl Print, memory: &mut [u8], case: &mut [u8], state: State, bytes: &[u8]) -> State
     requires { state.line.n ≤ length case.old }
     ensures { result.line.n ≤ length case.old }
 {
     let mut current = state;
-    let mut i: usize = 0;
-    while i < bytes.len() {
-        let next = take(memory, case, current, bytes[i]);
-        current = next;
-        i += 1;
+    for byte in bytes {
+        current = take(rt, memory, case, current, *byte);
     }
     current
 }
 
 // Runs the cases on this memory, in at most 65,536 chunks of 4,096 bytes. The zeros are a parameter, so that the proof knows the memory by
 // its type and doesn't count them.
-fn run_all(zeros: [u8; MEMORY]) {
+fn run_all(rt: &impl Print, input: &mut impl Read, zeros: [u8; MEMORY]) {
     let mut memory = zeros;
     let mut case = [0u8; 4096];
     let mut state = State {
         line: Line::new(),
         counters: discv4::cleared(),
     };
-    let mut chunk = io::buffer();
-    let mut turns: usize = 0;
-    while turns < 65536 {
-        let got = libc::read(STDIN_FILENO, &mut chunk);
-        let count = io::count(got, &chunk);
+    let mut chunk = [0u8; 4096];
+    for _ in 0..65536 {
+        // a read that fails ends the input
+        let count = input.read(&mut chunk).unwrap_or(0);
         if count == 0 {
-            answers::print_counts(state.counters);
+            answers::print_counts(rt, state.counters);
             return;
         }
-        let next = feed(&mut memory, &mut case, state, &chunk[..count]);
-        state = next;
-        turns += 1;
+        state = feed(rt, &mut memory, &mut case, state, &chunk[..count]);
     }
 }
 
-fn main() {
-    run_all([0; MEMORY]);
+fn main(rt: HostRuntime) {
+    run_all(&rt, &mut rt.reader(), [0; MEMORY]);
 }

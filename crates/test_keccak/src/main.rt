@@ -7,22 +7,23 @@ ghost use Rattle.std.specs.Prelude.{◌≤◌, length};
 // Byte i is 7 * i + 3, modulo 256.
 fn pattern() -> [u8; 1280] {
     let mut bytes = [0u8; 1280];
-    let mut i: usize = 0;
-    while i < 1280 {
-        bytes[i] = ((7 * i + 3) % 256) as u8;
-        i += 1;
+    for (i, byte) in bytes.iter_mut().enumerate() {
+        *byte = ((7 * i + 3) % 256) as u8;
     }
     bytes
 }
 
+// Prints a hash; what fails to be written is lost.
+fn print(rt: &impl Print, message: &[u8]) {
+    let _ = keccak_print::print_hash(rt, message);
+}
+
 // The hashes of the first `from` to `to` bytes.
-fn print_prefixes(bytes: &[u8], from: usize, to: usize)
+fn print_prefixes(rt: &impl Print, bytes: &[u8], from: usize, to: usize)
     requires { to ≤ length bytes.now }
 {
-    let mut n = from;
-    while n <= to {
-        keccak_print::print_hash(&bytes[0..n]);
-        n += 1;
+    for n in from..=to {
+        print(rt, &bytes[0..n]);
     }
 }
 
@@ -34,15 +35,15 @@ const KEY: [u8; 64] = [
     0xfd, 0x17, 0xb4, 0x48, 0xa6, 0x85, 0x54, 0x19, 0x9c, 0x47, 0xd0, 0x8f, 0xfb, 0x10, 0xd4, 0xb8,
 ];
 
-fn main() {
-    keccak_print::print_hash(b"");
-    keccak_print::print_hash(b"abc");
-    keccak_print::print_hash(b"The quick brown fox jumps over the lazy dog");
-    keccak_print::print_hash(&[0xa3u8; 200]);
-    keccak_print::print_hash(&KEY);
+fn main(rt: HostRuntime) {
+    print(&rt, b"");
+    print(&rt, b"abc");
+    print(&rt, b"The quick brown fox jumps over the lazy dog");
+    print(&rt, &[0xa3u8; 200]);
+    print(&rt, &KEY);
     let bytes = pattern();
-    print_prefixes(&bytes, 63, 65);
-    print_prefixes(&bytes, 134, 138);
-    print_prefixes(&bytes, 270, 274);
-    print_prefixes(&bytes, 1279, 1280);
+    print_prefixes(&rt, &bytes, 63, 65);
+    print_prefixes(&rt, &bytes, 134, 138);
+    print_prefixes(&rt, &bytes, 270, 274);
+    print_prefixes(&rt, &bytes, 1279, 1280);
 }

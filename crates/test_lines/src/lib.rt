@@ -3,8 +3,6 @@
 
 ghost use Rattle.std.specs.Prelude.{◌≤◌, length};
 
-use libc::STDOUT_FILENO;
-
 // ---- the line of a case
 
 // What is read of a line: `n` bytes, and after an odd number of digits the last one.
@@ -108,24 +106,31 @@ pub fn store(s: &mut [u8], at: usize, bytes: &[u8]) {
     }
 }
 
-// ---- what is printed
+// ---- what is printed; what fails to be written is lost
 
-pub fn print_hex(bytes: &[u8]) {
-    let mut i: usize = 0;
-    while i < bytes.len() {
-        io::print_hex(STDOUT_FILENO, octets::wide(bytes[i]), 2);
-        i += 1;
+pub fn print(rt: &impl Print, text: &str) {
+    let _ = rt.print(text);
+}
+
+// A number in decimal.
+pub fn print_decimal(rt: &impl Print, n: u64) {
+    let _ = rt.print(n);
+}
+
+pub fn print_hex(rt: &impl Print, bytes: &[u8]) {
+    for byte in bytes {
+        let _ = print!(rt; "{byte:02x}");
     }
 }
 
 // A tab and a number.
-pub fn print_number(n: u64) {
-    io::write_all(STDOUT_FILENO, b"\t");
-    io::print_decimal(STDOUT_FILENO, n);
+pub fn print_number(rt: &impl Print, n: u64) {
+    print(rt, "\t");
+    print_decimal(rt, n);
 }
 
 // A tab and bytes.
-pub fn print_bytes(bytes: &[u8]) {
-    io::write_all(STDOUT_FILENO, b"\t");
-    print_hex(bytes);
+pub fn print_bytes(rt: &impl Print, bytes: &[u8]) {
+    print(rt, "\t");
+    print_hex(rt, bytes);
 }

@@ -12,10 +12,10 @@ ghost use Rattle.std.specs.Prelude.{◌+◌, ◌*◌, ◌≤◌, length};
 
 mod reading;
 
-use libc::{STDIN_FILENO, STDOUT_FILENO};
 use node::{Endpoint, Node};
 use packet_bodies::NodeList;
 use packet_model::EnrSeq;
+use std::io::Read;
 use test_lines::{Line, bytes_at, number, short};
 use written::Written;
 
@@ -50,11 +50,8 @@ fn nodes(s: &[u8]) -> NodeList {
         len: short(s, 26) as usize,
         nodes: [node_at(s, 30); 16],
     };
-    let mut i: usize = 0;
-    while i < 16 {
-        let node = node_at(s, 30 + 85 * i);
-        list.nodes[i] = node;
-        i += 1;
+    for i in 0..16 {
+        list.nodes[i] = node_at(s, 30 + 85 * i);
     }
     list
 }
@@ -89,73 +86,68 @@ fn written(s: &[u8], room: &mut [u8]) -> Written {
 }
 
 // Runs the writer of a case in this room.
-fn print_written(s: &[u8], room: &mut [u8]) {
+fn print_written(rt: &impl Print, s: &[u8], room: &mut [u8]) {
     let answer = written(s, room);
-    io::print_decimal(STDOUT_FILENO, discv4::written_number(answer) as u64);
-    io::write_all(STDOUT_FILENO, b"\t");
-    test_lines::print_hex(room);
-    io::write_all(STDOUT_FILENO, b"\n");
+    test_lines::print_decimal(rt, discv4::written_number(answer) as u64);
+    test_lines::print(rt, "\t");
+    test_lines::print_hex(rt, room);
+    test_lines::print(rt, "\n");
 }
 
 // Runs the writer of a case in the room that it asks for, if `buf` has it.
-fn run_in(s: &[u8], buf: &mut [u8]) {
+fn run_in(rt: &impl Print, s: &[u8], buf: &mut [u8]) {
     let n = short(s, 1) as usize;
     if n <= buf.len() {
-        print_written(s, &mut buf[..n]);
+        print_written(rt, s, &mut buf[..n]);
     }
 }
 
-fn run(s: &[u8]) {
+fn run(rt: &impl Print, s: &[u8]) {
     if number(s, 0, 1) == 0 {
         let n = short(s, 26) as usize;
-        reading::print_read(bytes_at(s, 30, n), number(s, 3, 8));
+        reading::print_read(rt, bytes_at(s, 30, n), number(s, 3, 8));
         return;
     }
     let mut buf = [0xeeu8; 1400];
-    run_in(s, &mut buf);
+    run_in(rt, s, &mut buf);
 }
 
 // Takes one more byte of the input.
-fn take(case: &mut [u8], line: Line, b: u8) -> Line
+fn take(rt: &impl Print, case: &mut [u8], line: Line, b: u8) -> Line
     requires { line.n ≤ length case.old }
     ensures { result.n ≤ length case.old }
 {
     if b == b'\n' {
         let n = line.n;
-        run(&case[..n]);
+        run(rt, &case[..n]);
         return Line::new();
     }
     test_lines::push(case, line, b)
 }
 
-fn feed(case: &mut [u8], line: Line, bytes: &[u8]) -> Line
+fn feed(rt: &impl Print, case: &mut [u8], line: Line, bytes: &[u8]) -> Line
     requires { line.n ≤ length case.old }
     ensures { result.n ≤ length case.old }
 {
     let mut state = line;
-    let mut i: usize = 0;
-    while i < bytes.len() {
-        let next = take(case, state, bytes[i]);
-        state = next;
-        i += 1;
+    for byte in bytes {
+        state = take(rt, case, state, *byte);
     }
     state
 }
 
 // Reads at most 65,536 chunks of 4,096 bytes.
-fn main() {
+fn main(rt: HostRuntime) {
+    let mut input = rt.reader();
     let mut case = [0u8; 2048];
     let mut line = Line::new();
-    let mut chunk = io::buffer();
-    let mut turns: usize = 0;
-    while turns < 65536 {
-        let got = libc::read(STDIN_FILENO, &mut chunk);
-        let count = io::count(got, &chunk);
+    let mut chunk = [0u8; 4096];
+    for _ in 0..65536 {
+        // a read that fails ends the input
+        let count = input.read(&mut chunk).unwrap_or(0);
         if count == 0 {
             return;
         }
-        let next = feed(&mut case, line, &chunk[..count]);
-        line = next;
-        turns += 1;
+        line = feed(&rt, &mut case, line, &chunk[..count]);
     }
 }

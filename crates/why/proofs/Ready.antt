@@ -1,6 +1,6 @@
 -- The program stays ready from line to line. Assumes nothing.
-use Prim.Native.Nat.{◌+◌, ◌^◌, ◌≤◌, ◌<◌}
-use mathlib.Core.Path.{◌≡◌, refl, ap}
+use Prim.Native.Nat.{◌≤◌, ◌<◌}
+use mathlib.Core.Path.{◌≡◌, refl}
 use native.Mathlib.Omega.{arith}
 use lib.ListN.{length}
 use Rattle.octets.specs.Octets.{Bytes}
@@ -8,18 +8,23 @@ use Rattle.log_lines.specs.Lines.{Held}
 use Rattle.log_lines.specs.Steps.{fresh}
 use Rattle.log_lines.proofs.Found.{fresh_size}
 use Rattle.log_replay.specs.Replay.{start, line}
-use Rattle.log_replay.proofs.Replayed.{start-state}
+use Rattle.log_replay.specs.Steps.{start_replay}
+use Rattle.log_state.specs.State.{start_state, size_of, state_of}
 use Rattle.log_why.specs.declared.Tracked.{Tracked}
 use Rattle.log_why.specs.Tracking.{NotedLine, Starts}
-use Rattle.log_why.specs.Tracking as tracking
 use Rattle.why.specs.declared.Progress.{Progress}
 use Rattle.why.specs.Steps.{Ready}
+
+-- no line has come
+start_state_is : (memory : Bytes) → state_of start_replay memory ≡ start_state
+unfolding size_of
+start_state_is memory = refl
 
 -- before the first line
 pub at_start : (memory buffer : Bytes) (p : Progress) → 46304 ≡ length memory → 3000 ≡ length buffer → Starts p.tracked → p.begun ≡ fresh → Ready memory buffer p
 at_start memory buffer p em eb s e =
     record {
-      tracked = record { big = omega arith; count = rw s.replay (omega arith); reached = rw (s.replay, start-state memory) start; lines = rw s.trail (omega arith) };
+      tracked = record { big = omega arith; count = rw s.replay (omega arith); reached = rw (s.replay, start_state_is memory) start; lines = rw s.trail (omega arith) };
       buffer_size = omega arith;
       line_size = fresh_size p.begun e;
     }

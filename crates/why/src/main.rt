@@ -6,12 +6,14 @@ ghost use Rattle.std.specs.Prelude.{◌≡◌, true, ◌≤◌, ◌<◌, length}
 ghost use Rattle.octets.specs.Octets.{Bytes};
 ghost use Rattle.why.specs.Steps.{Ready, left};
 
-use libc::{STDERR_FILENO, STDIN_FILENO};
 use log_lines::{Begun, LIMIT, Last, Step};
 use log_reason::Why;
 use log_state::MEMORY;
 use log_why::Tracked;
+use programs::Source;
 use replay_output::write_out;
+use std::fs;
+use std::io::Read;
 
 // No log has more lines.
 const MOST: u64 = 0x7fff_ffff_ffff_ffff;
@@ -28,11 +30,11 @@ struct Progress {
 }
 
 // Ends the reading: the log has more lines than are counted.
-fn stop(p: Progress, next: usize) -> Progress
+fn stop(rt: &impl Eprint, p: Progress, next: usize) -> Progress
     ensures same { (result.tracked ≡ p.tracked) × (result.begun ≡ p.begun) }
     ensures on { result.at ≡ next }
 {
-    io::write_all(STDERR_FILENO, b"the log has too many lines\n");
+    programs::say(rt, "the log has too many lines\n");
     let mut q = p;
     q.failed = true;
     q.at = next;
@@ -42,6 +44,7 @@ fn stop(p: Progress, next: usize) -> Progress
 
 // Takes the line of `len` bytes in the buffer, after which the chunk goes on at `next`.
 fn note(
+    rt: &impl Eprint,
     memory: &mut [u8],
     key: &[u8],
     buffer: &[u8],
@@ -54,7 +57,7 @@ fn note(
     ensures on { result.at ≡ next }
 {
     if p.tracked.trail.lines >= MOST {
-        return stop(p, next);
+        return stop(rt, p, next);
     }
     let failed = p.failed;
     let tracked = log_why::note_line(memory, key, p.tracked, &buffer[0..len]);
@@ -69,13 +72,13 @@ fn note(
 }
 
 // Takes a line over the limit.
-fn note_long(p: Progress, next: usize) -> Progress
+fn note_long(rt: &impl Eprint, p: Progress, next: usize) -> Progress
     requires { p.tracked.replay.count ≤ 16 }
     ensures ready { (memory buffer : Bytes) → Ready memory buffer p → Ready memory buffer result }
     ensures on { result.at ≡ next }
 {
     if p.tracked.trail.lines >= MOST {
-        return stop(p, next);
+        return stop(rt, p, next);
     }
     let failed = p.failed;
     let tracked = log_why::note_too_long(p.tracked);
@@ -90,7 +93,14 @@ fn note_long(p: Progress, next: usize) -> Progress
 }
 
 // Takes the chunk up to its next 0A or its end, and the line that ended.
-fn turn(memory: &mut [u8], key: &[u8], buffer: &mut [u8], chunk: &[u8], p: Progress) -> Progress
+fn turn(
+    rt: &impl Eprint,
+    memory: &mut [u8],
+    key: &[u8],
+    buffer: &mut [u8],
+    chunk: &[u8],
+    p: Progress,
+) -> Progress
     requires { Ready memory.old buffer.old p × ((p.at ≤ length chunk.now) × (p.more ≡ true)) }
     ensures ready { Ready memory.new buffer.new result }
     ensures on { (result.at ≤ length chunk.now) × (left chunk.now result < left chunk.now p) }
@@ -98,8 +108,8 @@ fn turn(memory: &mut [u8], key: &[u8], buffer: &mut [u8], chunk: &[u8], p: Progr
     let begun = p.begun;
     let at = p.at;
     match log_lines::next_line(buffer, begun, chunk, at) {
-        Step::Line { len, next } => note(memory, key, buffer, p, len, next),
-        Step::TooLong { next } => note_long(p, next),
+        Step::Line { len, next } => note(rt, memory, key, buffer, p, len, next),
+        Step::TooLong { next } => note_long(rt, p, next),
         Step::More(begun) => {
             let tracked = p.tracked;
             Progress {
@@ -115,6 +125,7 @@ fn turn(memory: &mut [u8], key: &[u8], buffer: &mut [u8], chunk: &[u8], p: Progr
 
 // Takes the lines that end in a chunk.
 fn note_chunk(
+    rt: &impl Eprint,
     memory: &mut [u8],
     key: &[u8],
     buffer: &mut [u8],
@@ -128,15 +139,16 @@ fn note_chunk(
     q.at = 0;
     q.more = true;
     while q.more {
-        q = turn(memory, key, buffer, chunk, q);
+        q = turn(rt, memory, key, buffer, chunk, q);
     }
     q
 }
 
 // Reads one chunk and takes its lines; there is no more at the log's end, or where a read fails.
 fn read_chunk(
-    fd: i32,
-    name: &[u8],
+    rt: &impl Eprint,
+    input: &mut impl Read,
+    name: &str,
     memory: &mut [u8],
     key: &[u8],
     buffer: &mut [u8],
@@ -147,26 +159,27 @@ fn read_chunk(
 {
     let mut q = p;
     q.more = false;
-    let mut chunk = io::large_buffer();
-    let got = libc::read(fd, &mut chunk);
-    if got < 0 {
-        os::fail(name);
-        q.failed = true;
-        return q;
+    let mut chunk = programs::large_buffer();
+    match input.read(&mut chunk) {
+        Err(error) => {
+            programs::fail(rt, name, &error);
+            q.failed = true;
+            q
+        }
+        Ok(0) => q,
+        Ok(n) => {
+            let mut r = note_chunk(rt, memory, key, buffer, &chunk[0..n], q);
+            r.more = !r.failed;
+            r
+        }
     }
-    if got == 0 {
-        return q;
-    }
-    let n = io::count(got, &chunk);
-    let mut r = note_chunk(memory, key, buffer, &chunk[0..n], q);
-    r.more = !r.failed;
-    r
 }
 
-// Reads the whole log. Nothing says that a log ends: the turns are counted down from a number that no run uses up.
+// Reads the whole log. Nothing says that a log ends: there are more turns than any run uses up.
 fn read_log(
-    fd: i32,
-    name: &[u8],
+    rt: &impl Eprint,
+    input: &mut impl Read,
+    name: &str,
     memory: &mut [u8],
     key: &[u8],
     buffer: &mut [u8],
@@ -177,38 +190,45 @@ fn read_log(
 {
     let mut q = p;
     q.more = true;
-    let mut turns = u64::MAX;
-    while turns > 0 && q.more {
-        q = read_chunk(fd, name, memory, key, buffer, q);
-        turns -= 1;
+    for _ in 0..u64::MAX {
+        if !q.more {
+            break;
+        }
+        q = read_chunk(rt, input, name, memory, key, buffer, q);
     }
     q
 }
 
 // Takes a last line without 0A.
-fn note_last(memory: &mut [u8], key: &[u8], buffer: &[u8], p: Progress) -> Progress
+fn note_last(
+    rt: &impl Eprint,
+    memory: &mut [u8],
+    key: &[u8],
+    buffer: &[u8],
+    p: Progress,
+) -> Progress
     requires { Ready memory.old buffer.now p }
 {
     let begun = p.begun;
     match log_lines::last_line(begun) {
-        Last::Line { len } => note(memory, key, buffer, p, len, 0),
-        Last::TooLong => note_long(p, 0),
+        Last::Line { len } => note(rt, memory, key, buffer, p, len, 0),
+        Last::TooLong => note_long(rt, p, 0),
         Last::Nothing => p,
     }
 }
 
 // Writes the first n bytes.
-fn print_row(row: &[u8], n: usize)
+fn print_row(rt: &(impl Print + Eprint), row: &[u8], n: usize)
     requires { n ≤ length row.now }
 {
-    write_out(&row[0..n]);
+    write_out(rt, &row[0..n]);
 }
 
 // Writes the row of an answer.
-fn print_why(answer: Why) {
+fn print_why(rt: &(impl Print + Eprint), answer: Why) {
     let mut row = [0u8; 64];
     let n = log_reason::put_why(&mut row, answer);
-    print_row(&row, n);
+    print_row(rt, &row, n);
 }
 
 // Zeros for the table. Each `ensures` gives the length, which lending the array as a slice needs.
@@ -226,7 +246,7 @@ fn line_buffer() -> [u8; LIMIT]
 }
 
 // Tells the reason for a key over a log.
-fn tell(fd: i32, name: &[u8], key: &[u8]) {
+fn tell(rt: &(impl Print + Eprint), input: &mut impl Read, name: &str, key: &[u8]) {
     let mut memory = table_memory();
     let mut buffer = line_buffer();
     let tracked = log_why::start();
@@ -238,51 +258,41 @@ fn tell(fd: i32, name: &[u8], key: &[u8]) {
         at: 0,
         more: true,
     };
-    let q = read_log(fd, name, &mut memory, key, &mut buffer, p);
+    let q = read_log(rt, input, name, &mut memory, key, &mut buffer, p);
     if q.failed {
         return;
     }
-    let r = note_last(&mut memory, key, &buffer, q);
+    let r = note_last(rt, &mut memory, key, &buffer, q);
     if r.failed {
         return;
     }
     let reason = log_why::reason_of(r.tracked.trail);
-    print_why(Why::Told(reason));
+    print_why(rt, Why::Told(reason));
 }
 
 // Opens the log and tells the reason for a key.
-fn tell_of(key: &[u8]) {
-    if os::arg_count() < 3 {
-        tell(STDIN_FILENO, b"standard input", key);
-        return;
+fn tell_of(rt: &HostRuntime, key: &[u8]) {
+    let mut path = programs::buffer();
+    match programs::source_of(rt, 2, &mut path) {
+        Source::StandardInput | Source::File("-") => {
+            tell(rt, &mut rt.reader(), "standard input", key)
+        }
+        Source::File(path) => match fs::open(rt, path) {
+            Ok(mut file) => tell(rt, &mut file, path, key),
+            Err(error) => programs::fail(rt, path, &error),
+        },
+        Source::NoPath => {}
     }
-    let mut path = io::buffer();
-    let length = os::arg(2, &mut path);
-    if os::errno() != 0 {
-        os::fail(b"path");
-        return;
-    }
-    if octets::same_bytes(&path[..length], b"-") {
-        tell(STDIN_FILENO, b"standard input", key);
-        return;
-    }
-    let fd = os::open_read(&path[..length]);
-    if fd < 0 {
-        os::fail(&path[..length]);
-        return;
-    }
-    tell(fd, &path[..length], key);
-    libc::close(fd);
 }
 
-fn main() {
+fn main(rt: HostRuntime) {
     // a text that doesn't fit the buffer, or is missing, is left as an empty one
-    let mut text = io::buffer();
-    let length = os::arg(1, &mut text);
+    let mut text = programs::buffer();
+    let length = programs::word(&rt, 1, &mut text);
     if !log_reason::is_key_text(&text[..length]) {
-        print_why(Why::WrongKey);
+        print_why(&rt, Why::WrongKey);
         return;
     }
     let key = log_reason::key_of(&text[..length]);
-    tell_of(&key);
+    tell_of(&rt, &key);
 }
