@@ -27,9 +27,12 @@ returns-in-Refused c =
     let a = start.args in
     judged-at a.table.now a.clock.0 a.unix a.address.now a.signer.now a.datagram.now start.requires c.judge.ensures in
     let at = c in
-    let a = at.args in record { value = (refused-before a.table.now a.clock.0 a.unix a.address.now a.signer.now a.datagram.now a.port
-    (sym is_judged ∙ c.in-Refused.is) c.plain.ensures).0; table_after = (refused-before a.table.now a.clock.0 a.unix a.address.now a.signer.now a.datagram.now a.port
-    (sym is_judged ∙ c.in-Refused.is) c.plain.ensures).1 }
+    let a = at.args in record {
+      value = (refused-before a.table.now a.clock.0 a.unix a.address.now a.signer.now a.datagram.now a.port
+          (sym is_judged ∙ c.in-Refused.is) c.plain.ensures).0;
+      table_after = (refused-before a.table.now a.clock.0 a.unix a.address.now a.signer.now a.datagram.now a.port
+          (sym is_judged ∙ c.in-Refused.is) c.plain.ensures).1;
+    }
 
 pub returns-in-Passed : goal.returns-in-Passed
 returns-in-Passed c =
@@ -38,6 +41,9 @@ returns-in-Passed c =
     let a = start.args in
     judged-at a.table.now a.clock.0 a.unix a.address.now a.signer.now a.datagram.now start.requires c.judge.ensures in
     let at = c in
-    let a = at.args in record { value = (done a.table.now a.clock.0 a.unix a.address.now a.signer.now a.datagram.now a.port
-    (sym is_judged ∙ c.in-Passed.is) c.deliver.ensures.value c.deliver.ensures.table_after).0; table_after = (done a.table.now a.clock.0 a.unix a.address.now a.signer.now a.datagram.now a.port
-    (sym is_judged ∙ c.in-Passed.is) c.deliver.ensures.value c.deliver.ensures.table_after).1 }
+    let a = at.args in record {
+      value = (done a.table.now a.clock.0 a.unix a.address.now a.signer.now a.datagram.now a.port
+          (sym is_judged ∙ c.in-Passed.is) c.deliver.ensures.value c.deliver.ensures.table_after).0;
+      table_after = (done a.table.now a.clock.0 a.unix a.address.now a.signer.now a.datagram.now a.port
+          (sym is_judged ∙ c.in-Passed.is) c.deliver.ensures.value c.deliver.ensures.table_after).1;
+    }

@@ -47,5 +47,8 @@ returns c =
     let at = c in
     let a = at.args in
     let s = a.table.now in
-    let none = c.if-reply-ne0.false in record { value = replied s a.slot a.clock.0 a.address.now a.port a.signer.now a.datagram.now a.packet replies; table_after = is-delivered s a.slot a.clock.0 a.address.now a.port a.signer.now a.datagram.now a.packet replies none
-          (written s a.slot a.clock.0 at.on_packet-reply.result.after _ (replies.after none) c.put.ensures) }
+    let none = c.if-reply-ne0.false in record {
+      value = replied s a.slot a.clock.0 a.address.now a.port a.signer.now a.datagram.now a.packet replies;
+      table_after = is-delivered s a.slot a.clock.0 a.address.now a.port a.signer.now a.datagram.now a.packet replies none
+          (written s a.slot a.clock.0 at.on_packet-reply.result.after _ (replies.after none) c.put.ensures);
+    }

@@ -34,7 +34,8 @@ returns c =
     let at_ping_stamp = at_put_bytes in
     let at_proof_stamp = at_ping_stamp in
     let start = at_proof_stamp in
-    let args = start.args in record { bytes_after = stored_entry args.bytes.now args.at args.p key_size address_size
+    let args = start.args in record {
+      bytes_after = stored_entry args.bytes.now args.at args.p key_size address_size
           at_proof_stamp.proof_stamp-proof.ensures
           at_ping_stamp.ping_stamp-ping.ensures
           at_put_bytes.put_bytes.ensures
@@ -42,4 +43,6 @@ returns c =
           at_put_number.put_number.ensures
           at_store_stamp.store_stamp.ensures
           at_store_stamp_2.store_stamp-2.ensures
-          c.put_bytes-2.ensures; p_len = length-encode_entry args.p key_size address_size hash_size }
+          c.put_bytes-2.ensures;
+      p_len = length-encode_entry args.p key_size address_size hash_size;
+    }

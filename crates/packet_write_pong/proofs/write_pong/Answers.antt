@@ -91,9 +91,12 @@ returns-then-body_size-buf c =
     let size_is : size ≡ length (encodes items) = let h = hash_size in
     omega (arith, total_size items, c.endpoint_size-a.ensures.0, string_short c.args.ping_hash.now (λ o. omega arith) (omega arith), total_size last, c.last_size.ensures.0) in
     let begun : Begun 2 size parts c.args.buf.now = begin 2 items size_is parts_are (omega (arith, c.if-body_size-buf.true, c.body_size.ensures)) in
-    record { answer = (end 2 items size_is parts_are ok
-    (step (step (step (step begun (c.put_start-at.ensures.next, c.put_start-at.ensures.bytes)) (c.put_endpoint-at.ensures.next, c.put_endpoint-at.ensures.bytes)) (c.write_string-at.ensures.next, c.write_string-at.ensures.bytes)) (c.put_last.ensures.next, c.put_last.ensures.bytes))).0; bytes = (end 2 items size_is parts_are ok
-    (step (step (step (step begun (c.put_start-at.ensures.next, c.put_start-at.ensures.bytes)) (c.put_endpoint-at.ensures.next, c.put_endpoint-at.ensures.bytes)) (c.write_string-at.ensures.next, c.write_string-at.ensures.bytes)) (c.put_last.ensures.next, c.put_last.ensures.bytes))).1 }
+    record {
+      answer = (end 2 items size_is parts_are ok
+          (step (step (step (step begun (c.put_start-at.ensures.next, c.put_start-at.ensures.bytes)) (c.put_endpoint-at.ensures.next, c.put_endpoint-at.ensures.bytes)) (c.write_string-at.ensures.next, c.write_string-at.ensures.bytes)) (c.put_last.ensures.next, c.put_last.ensures.bytes))).0;
+      bytes = (end 2 items size_is parts_are ok
+          (step (step (step (step begun (c.put_start-at.ensures.next, c.put_start-at.ensures.bytes)) (c.put_endpoint-at.ensures.next, c.put_endpoint-at.ensures.bytes)) (c.write_string-at.ensures.next, c.write_string-at.ensures.bytes)) (c.put_last.ensures.next, c.put_last.ensures.bytes))).1;
+    }
 
 pub returns-then-can_pong : goal.returns-then-can_pong
 returns-then-can_pong c =

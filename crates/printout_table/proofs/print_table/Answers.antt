@@ -15,15 +15,18 @@ bucket_count-buckets-requires c = header_in c.args.table.now (sym c.sound.ensure
 
 pub room_for-requires : goal.room_for-requires
 room_for-requires c = omega (
-      arith,
-      c.bucket_count-buckets.ensures,
-      at-most c.args.table.now (sym c.sound.ensures ∙ c.if-not-sound.false),
-    )
+  arith,
+  c.bucket_count-buckets.ensures,
+  at-most c.args.table.now (sym c.sound.ensures ∙ c.if-not-sound.false),
+)
 
 pub returns-then-out-room_for : goal.returns-then-out-room_for
-returns-then-out-room_for c = let a = c.args in record { value = (short a.out.now a.table.now (sym c.sound.ensures ∙ c.if-not-sound.false)
-    (omega (arith, c.if-out-room_for.true, c.room_for.ensures, c.bucket_count-buckets.ensures))).0; out_after = (short a.out.now a.table.now (sym c.sound.ensures ∙ c.if-not-sound.false)
-    (omega (arith, c.if-out-room_for.true, c.room_for.ensures, c.bucket_count-buckets.ensures))).1 }
+returns-then-out-room_for c = let a = c.args in record {
+  value = (short a.out.now a.table.now (sym c.sound.ensures ∙ c.if-not-sound.false)
+      (omega (arith, c.if-out-room_for.true, c.room_for.ensures, c.bucket_count-buckets.ensures))).0;
+  out_after = (short a.out.now a.table.now (sym c.sound.ensures ∙ c.if-not-sound.false)
+      (omega (arith, c.if-out-room_for.true, c.room_for.ensures, c.bucket_count-buckets.ensures))).1;
+}
 
 pub put_table-size-requires : goal.put_table-size-requires
 put_table-size-requires c = (
@@ -33,8 +36,11 @@ put_table-size-requires c = (
 
 pub returns : goal.returns
 returns c = let a = c.args in
-    let sound : table_sound a.table.now ≡ true = sym c.sound.ensures ∙ c.if-not-sound.false in record { value = (done a.out.now a.table.now sound
-    (omega (arith, c.if-out-room_for.false, c.room_for.ensures, c.bucket_count-buckets.ensures))
-    (c.put_table-size.ensures.value, c.put_table-size.ensures.out_after)).0; out_after = (done a.out.now a.table.now sound
-    (omega (arith, c.if-out-room_for.false, c.room_for.ensures, c.bucket_count-buckets.ensures))
-    (c.put_table-size.ensures.value, c.put_table-size.ensures.out_after)).1 }
+    let sound : table_sound a.table.now ≡ true = sym c.sound.ensures ∙ c.if-not-sound.false in record {
+      value = (done a.out.now a.table.now sound
+          (omega (arith, c.if-out-room_for.false, c.room_for.ensures, c.bucket_count-buckets.ensures))
+          (c.put_table-size.ensures.value, c.put_table-size.ensures.out_after)).0;
+      out_after = (done a.out.now a.table.now sound
+          (omega (arith, c.if-out-room_for.false, c.room_for.ensures, c.bucket_count-buckets.ensures))
+          (c.put_table-size.ensures.value, c.put_table-size.ensures.out_after)).1;
+    }
