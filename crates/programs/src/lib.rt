@@ -92,3 +92,11 @@ pub fn source_of<'a>(rt: &(impl Env + Eprint), i: usize, buf: &'a mut [u8]) -> S
         },
     }
 }
+
+// ---- tests
+
+#[test]
+fn text_of_an_error_without_its_number(rt: HostRuntime) {
+    assert!(rt; without_number("Is a directory (os error 21)") == "Is a directory");
+    assert!(rt; without_number("failed to write whole buffer") == "failed to write whole buffer");
+}

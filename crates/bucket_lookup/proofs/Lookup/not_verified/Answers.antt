@@ -1,0 +1,9 @@
+-- `bucket_rules::Lookup::not_verified` meets its contract. Assumes nothing.
+use mathlib.Core.Path.{ap}
+use mathlib.Core.Bool.{not}
+use Rattle.bucket_model.specs.Rules.{is_verified}
+use Rattle.bucket_lookup.proofs.Laws.{any_found}
+use Rattle.bucket_lookup.proofs.Lookup.not_verified.Goals as goal
+
+pub returns : goal.returns
+returns c = ap not (any_found (is_verified c.args.clock.0 c.args.address.now c.args.udp) c.args.self c.is_held-held.ensures c.is_verified.ensures c.both.ensures)

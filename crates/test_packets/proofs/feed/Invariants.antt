@@ -1,0 +1,6 @@
+-- What is read of the line lies in the case.
+use Rattle.std.proofs.Common.{◌≤◌, length}
+use Rattle.test_packets.proofs.feed.Given as goal
+
+abbrev pub invariant-loop-byte : goal.invariant-loop-byte
+invariant-loop-byte g l = l.state.n ≤ length l.case
