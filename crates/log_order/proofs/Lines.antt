@@ -78,9 +78,9 @@ rows-by : (s : Bytes) (ls : List Held) → rows_from (at s) ls ≡ rows_by s (ma
 rows-by s [] = refl
 rows-by s (l ∷ ls) = rw ((by_asked s l).0, (by_asked s l).1) (ap (λ m. (asked l, row_at s (asked l)) ∷ m) (rows-by (left_at s (asked l)) ls))
 
-left_by : (s : Bytes) (ls : List Held) → after_lines (at s) ls ≡ at (left_by s (map asked ls))
-left_by s [] = refl
-left_by s (l ∷ ls) = rw (by_asked s l).1 (left_by (left_at s (asked l)) ls)
+left-by : (s : Bytes) (ls : List Held) → after_lines (at s) ls ≡ at (left_by s (map asked ls))
+left-by s [] = refl
+left-by s (l ∷ ls) = rw (by_asked s l).1 (left-by (left_at s (asked l)) ls)
 
 -- ---- the calls asked for
 
@@ -91,7 +91,7 @@ left_calls s (call c ∷ more) = left_calls (left s c) more
 left_calls s (unreadable ∷ more) = left_calls s more
 
 pub lines_left : (s : Bytes) (ls : List Held) → after_lines (at s) ls ≡ at (order.after row left s (calls_of (map asked ls)))
-lines_left s ls = left_by s ls ∙ ap at (left_calls s (map asked ls))
+lines_left s ls = left-by s ls ∙ ap at (left_calls s (map asked ls))
 
 abbrev pub as_row : Call × Bytes → Asked × Bytes
 as_row v = (call v.0, v.1)
