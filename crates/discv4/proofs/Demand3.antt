@@ -99,12 +99,12 @@ all_left s (p ∷ ps) =
     ∙ ap (λ (t : Bytes). bytes_after_all answer_number table_after t more) (left_is s p)
     ∙ sym (append_bytes s (calls_made s p) more)
 
-pub all_told : (s : Bytes) (ps : List PublicCall) → all_told s ps ≡ answers_on answer_number table_after s (all_made s ps)
-all_told s [] = refl
-all_told s (p ∷ ps) =
+pub all_told_is : (s : Bytes) (ps : List PublicCall) → all_told s ps ≡ answers_on answer_number table_after s (all_made s ps)
+all_told_is s [] = refl
+all_told_is s (p ∷ ps) =
     let more : List Call = all_made (table_left s p) ps in
     ap₂ (λ (ms ns : List ℕ). ms ++ ns) (told_is s p)
-    (all_told (table_left s p) ps ∙ ap (λ (t : Bytes). answers_on answer_number table_after t more) (left_is s p))
+    (all_told_is (table_left s p) ps ∙ ap (λ (t : Bytes). answers_on answer_number table_after t more) (left_is s p))
     ∙ sym (append_answers s (calls_made s p) more)
 
 made_is : (s : Bytes) (p : PublicCall) → IsPublicCall p → All IsCall (calls_made s p)
@@ -208,7 +208,7 @@ library_keeps memory key count accepted calls are =
     let made : List Call = all_made s calls in
     let all = demand3_of_calls key count (from-1 memory key count accepted) (to-256 memory key count accepted) made (all_are s calls are) in
     rw (is-fresh memory key count accepted) (record {
-      numbers = all_told s calls ∙ numbers_same s made ∙ all.follows.numbers;
+      numbers = all_told_is s calls ∙ numbers_same s made ∙ all.follows.numbers;
       bytes = all_left s calls ∙ all_bytes_same s made ∙ all.follows.bytes;
       demand = all.demand;
       counts = counts_kept s calls;

@@ -1,7 +1,7 @@
 -- What a line does to a node, as the code finds it, is what the run says. Assumes nothing.
 use Prim.Native.Nat.{ℕ, suc, ◌+◌, ◌≤◌}
 use mathlib.Core.Path.{◌≡◌, refl, sym, ap, ap₂, ◌∙◌}
-use mathlib.Core.Bool.{Bool, true, false, cond, not, ◌&&◌, ◌||◌}
+use mathlib.Core.Bool.{Bool, true, false, not, ◌&&◌, ◌||◌}
 use mathlib.Core.List.{List, [], ◌∷◌, ◌++◌}
 use native.Mathlib.Omega.{arith}
 use lib.Dec.{eqb}
@@ -13,10 +13,10 @@ use Rattle.entry.specs.declared.Entry.{Entry}
 use Rattle.bucket.specs.declared.Position.{Position}
 use Rattle.bucket.specs.declared.Position.TheVariants.{Absent, InEntries, InReplacements}
 use Rattle.bucket_model.specs.Contents.{no_contents}
-use Rattle.bucket_model.specs.Rules.{of_key, is_verified, is_overdue}
+use Rattle.bucket_model.specs.Rules.{is_verified, is_overdue}
 use Rattle.bucket_model.proofs.View.{SameAs}
 use Rattle.bucket_lookup.specs.declared.Lookup.{Lookup}
-use Rattle.bucket_lookup.specs.Steps.{only_at, found, in_entries}
+use Rattle.bucket_lookup.specs.Steps.{only_at, found}
 use Rattle.call_history.specs.Model.{Env, Call, datagram, ping_sent, sweep, closest, unclocked, Table, fresh, slot, bucket_of, answer, next}
 use Rattle.call_history.proofs.Step.{fresh-bucket}
 use Rattle.call_history.proofs.View.{other-datagram, other_ping_sent}
@@ -24,13 +24,13 @@ use Rattle.call_history.specs.Words.{is_pong, entry_of, replacement_of}
 use Rattle.call_model.specs.Reading.{reading}
 use Rattle.log_state.specs.State.{State}
 use Rattle.log_own.specs.OwnLine.{own_number}
-use Rattle.log_history.specs.Past.{Asked, own, call, unreadable, Stage, before, running, rules_for, number_at, stage_after, Moment, leaves}
-use Rattle.log_history.specs.Why.{seat_in, place_in, held_in, seats, joins, removes, moves, tails, named_in, names, is_ping_to, pings, overdue_at}
+use Rattle.log_history.specs.Past.{Asked, own, call, unreadable, Stage, before, running, rules_for, number_at, stage_after}
+use Rattle.log_history.specs.Why.{seat_in, place_in, held_in, moves, named_in, is_ping_to, overdue_at}
 use Rattle.log_history.specs.declared.Trail.{Trail}
 use Rattle.log_history.specs.Trail.{trail_after}
 use Rattle.log_run.proofs.Kept.{Kept, none, some}
 use Rattle.log_acts.specs.declared.Acted.{Acted}
-use Rattle.log_acts.specs.Acts.{idle, from_it, acts_by, acts_of}
+use Rattle.log_acts.specs.Acts.{idle, acts_by, acts_of}
 use Rattle.log_why.specs.Steps.{seats_by, joins_by, removes_by, standing_by, trail_by}
 use Rattle.log_why.specs.Tracking.{Stands}
 use Rattle.log_acts.proofs.Leaves.{not_not}

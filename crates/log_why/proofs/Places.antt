@@ -1,30 +1,27 @@
 -- Where a node stands in the table that a replay has led to. Assumes nothing.
-use Prim.Native.Nat.{ℕ, ◌+◌, ◌-◌, ◌≤◌, ◌<◌}
-use mathlib.Core.Path.{◌≡◌, refl, sym, ap, ◌∙◌}
-use mathlib.Core.Bool.{Bool, true, false, not}
+use Prim.Native.Nat.{ℕ, ◌-◌, ◌≤◌, ◌<◌}
+use mathlib.Core.Path.{◌≡◌, sym, ap, ◌∙◌}
+use mathlib.Core.Bool.{true}
 use mathlib.Core.List.{[]}
 use native.Mathlib.Omega.{arith}
 use lib.ListN.{length, take, drop}
 use Rattle.octets.specs.Octets.{Bytes}
-use Rattle.lists.specs.Lists.{empty}
 use Rattle.lists.proofs.Laws.{and_left, and_right}
 use Rattle.keccak.specs.Sponge.{keccak256}
 use Rattle.distance.specs.Distance.{distance, bit_length}
-use Rattle.bucket_model.specs.Contents.{Contents}
 use Rattle.bucket.specs.declared.Bucket.{Bucket}
-use Rattle.bucket.specs.declared.Position.{Position}
 use Rattle.bucket.specs.declared.Position.TheVariants.{Absent}
 use Rattle.bucket.specs.Steps.{contents, Shows}
 use Rattle.bucket.proofs.Laws.{shown}
 use Rattle.bucket_lookup.specs.declared.Lookup.{Lookup}
-use Rattle.bucket_lookup.specs.Steps.{only_at, found, in_entries, LooksUp}
-use Rattle.table_model.specs.Layout.{own_of, count_of, bucket_at, header_sound}
+use Rattle.bucket_lookup.specs.Steps.{only_at, in_entries, LooksUp}
+use Rattle.table_model.specs.Layout.{own_of, count_of, header_sound}
 use Rattle.table_model.specs.Sound.{bucket_sound, buckets_sound, table_sound}
 use Rattle.table_model.specs.Facts.{SoundTable}
 use Rattle.table_model.proofs.Header.{header-sound}
 use Rattle.table_model.proofs.Table.{length-table}
 use Rattle.table_model.proofs.Sound.{all-below, sized-table}
-use Rattle.call_history.specs.Model.{Env, Table, bucket_number, slot, bucket_of}
+use Rattle.call_history.specs.Model.{bucket_number, slot, bucket_of}
 use Rattle.call_model.specs.Calls.{env_of, bucket_for}
 use Rattle.call_model.specs.Reading.{reading}
 use Rattle.call_model.specs.OverBytes.{encode}

@@ -1,23 +1,20 @@
 -- The reason over a whole log. Assumes nothing.
-use Prim.Native.Nat.{ℕ, ◌+◌, ◌-◌, ◌^◌, ◌≤◌, ◌<◌}
+use Prim.Native.Nat.{ℕ, ◌+◌, ◌^◌, ◌≤◌, ◌<◌}
 use mathlib.Core.Path.{◌≡◌, refl, sym, ap, ◌∙◌}
-use mathlib.Core.Bool.{Bool, true, false, cond}
 use mathlib.Core.List.{List, [], ◌∷◌, map}
 use native.Mathlib.Omega.{arith}
 use borrow.Author.Tests.{ltb-true}
 use lib.Dec.{ltb}
-use lib.ListN.{length, take, drop}
+use lib.ListN.{length, drop}
 use Rattle.octets.specs.Octets.{Bytes}
 use Rattle.lists.proofs.Laws.{by_test}
 use Rattle.text.specs.Marks.{until}
 use Rattle.text.specs.Lines.{lines_of}
 use Rattle.text.proofs.Lines.{line-at, lines_none}
 use Rattle.bucket_lookup.specs.Steps.{only_at, in_entries}
-use Rattle.log_lines.specs.Lines.{limit, Held, whole, too_long, held}
-use Rattle.log_lines.specs.Steps.{fresh}
-use Rattle.log_lines.specs.Feeding.{Feeds, join}
+use Rattle.log_lines.specs.Lines.{limit, Held, whole, held}
+use Rattle.log_lines.specs.Feeding.{join}
 use Rattle.log_lines.proofs.Chunks.{feeds_lines}
-use Rattle.log_line.specs.Forms.{line_of}
 use Rattle.log_line.proofs.Found.{line_long}
 use Rattle.log_state.specs.State.{state_of}
 use Rattle.log_history.specs.Past.{Asked, asked, Past, nothing_read, read_one, read_all, past_of}
@@ -27,9 +24,9 @@ use Rattle.log_history.proofs.Tells.{trail_tells}
 use Rattle.log_replay.specs.Replay.{Reached, start as reached-start, line as reached-line}
 use Rattle.log_replay.specs.Steps.{start_replay}
 use Rattle.log_replay.proofs.Replayed.{start-state}
-use Rattle.log_run.specs.Run.{SameLines, start}
+use Rattle.log_run.specs.Run.{start}
 use Rattle.log_why.specs.declared.Tracked.{Tracked}
-use Rattle.log_why.specs.Tracking.{Stands, Tracks, Starts, Ready, NotedLine, Notes, done, next}
+use Rattle.log_why.specs.Tracking.{Tracks, Starts, Ready, NotedLine, Notes, done, next}
 use Rattle.log_why.specs.Claims.{WhyOfLog}
 
 -- ---- lines

@@ -1,5 +1,4 @@
 -- `log_why::look` meets its contract. Assumes nothing.
-use mathlib.Core.Bool.{true}
 use Rattle.log_acts.proofs.Calls.{at_front}
 use Rattle.log_why.proofs.Places.{sound_slot, front-sound, stands_nowhere, stands_looked}
 use Rattle.log_why.proofs.look.Goals as goal
