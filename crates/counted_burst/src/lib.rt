@@ -22,7 +22,7 @@ pub fn raise_all(counters: Counters, numbers: &[u8]) -> Counters
     raised
 }
 
-// A burst with the counters by value, for callers inside the repository: a function that calls this needs no proof by hand.
+// A burst with the counters by value, for callers inside the repository.
 pub fn burst_with(
     counters: Counters,
     table: &mut [u8],

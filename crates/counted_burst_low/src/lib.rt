@@ -1,5 +1,5 @@
 // The burst of the public library with readings of 32 bits: the datagrams are handed over one after the other on the lent table, each one's reading
-// widened by the table's clock at its turn, and each one's number is counted in the lent counters. tools/walks.sh prints the proof of `burst_low`.
+// widened by the table's clock at its turn, and each one's number is counted in the lent counters.
 #![tactic(auto)]
 
 ghost use Rattle.std.specs.Prelude.{◌≡◌, length};
@@ -9,7 +9,7 @@ ghost use Rattle.call_burst.specs.Burst.{burst_number, low_numbers_of, low_table
 
 use counters::{CountedNumber, Counters};
 
-// A burst with the counters by value, for callers inside the repository: a function that calls this needs no proof by hand.
+// A burst with the counters by value, for callers inside the repository.
 pub fn burst_low_with(
     counters: Counters,
     table: &mut [u8],

@@ -1,5 +1,4 @@
 // The datagram call of the public library: it works on the lent table, counts its answer number in the lent counters, and answers.
-// tools/walks.sh prints its proof.
 #![tactic(auto)]
 
 ghost use Rattle.std.specs.Prelude.{◌≡◌};
@@ -34,7 +33,7 @@ pub fn datagram(
     answer
 }
 
-// The same call with the counters by value, for callers inside the repository: a function that calls this needs no proof by hand.
+// The same call with the counters by value, for callers inside the repository.
 
 // The answer to a datagram, and the counters after it.
 #[derive(Clone, Copy)]

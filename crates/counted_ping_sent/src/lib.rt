@@ -1,5 +1,4 @@
 // The ping-sent call of the public library: it works on the lent table, counts its answer number in the lent counters, and answers.
-// tools/walks.sh prints its proof.
 #![tactic(auto)]
 
 ghost use Rattle.std.specs.Prelude.{◌≡◌};
@@ -31,7 +30,7 @@ pub fn ping_sent(
     answer
 }
 
-// The same call with the counters by value, for callers inside the repository: a function that calls this needs no proof by hand.
+// The same call with the counters by value, for callers inside the repository.
 pub fn ping_sent_with(
     counters: Counters,
     table: &mut [u8],

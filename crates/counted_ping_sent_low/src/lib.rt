@@ -1,5 +1,5 @@
 // The ping-sent call of the public library by a reading of 32 bits: it works on the lent table, counts its answer number in the lent counters, and
-// answers. tools/walks.sh prints its proof.
+// answers.
 #![tactic(auto)]
 
 ghost use Rattle.std.specs.Prelude.{◌≡◌};

@@ -1,5 +1,4 @@
 // The sweep call of the public library: it works on the lent table, counts its answer number in the lent counters, and answers.
-// tools/walks.sh prints its proof.
 #![tactic(auto)]
 
 ghost use Rattle.std.specs.Prelude.{◌≡◌};
@@ -23,7 +22,7 @@ pub fn sweep(counters: &mut Counters, table: &mut [u8], clock: MonotonicMillis) 
     answer
 }
 
-// The same call with the counters by value, for callers inside the repository: a function that calls this needs no proof by hand.
+// The same call with the counters by value, for callers inside the repository.
 pub fn sweep_with(counters: Counters, table: &mut [u8], clock: MonotonicMillis) -> CountedNumber
     ensures number_value { result.number ≡ answer_on reading table.old (model.sweep clock.0) }
     ensures table_after { table.new ≡ bytes_after reading table.old (model.sweep clock.0) }
