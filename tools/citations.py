@@ -33,8 +33,8 @@ for pattern in (*CRATES, "include/*.h", "host/rust/src/*.rs", "examples/host/*.c
     for path in glob.glob(os.path.join(ROOT, pattern), recursive=True):
         path = os.path.relpath(path, ROOT)
         texts[path] = set(re.findall(WORD, read(path)))
-# a program of the reference has its file's name
-known = set().union(*texts.values(), (os.path.splitext(os.path.basename(path))[0] for path in texts))
+# a program of the reference has its file's name, and a crate is named too
+known = set().union(*texts.values(), crates.deps, (os.path.splitext(os.path.basename(path))[0] for path in texts))
 
 
 def paths_of(token):
@@ -118,7 +118,8 @@ def page_faults(page):
 
 def main():
     pages = ["README.md", "CHANGELOG.md", "host/README.md", "tests/README.md", "examples/host/README.md"]
-    pages += sorted(os.path.relpath(p, ROOT) for p in glob.glob(os.path.join(ROOT, "docs", "**", "*.md"), recursive=True))
+    pages += sorted(os.path.relpath(p, ROOT) for p in glob.glob(os.path.join(ROOT, "docs", "**", "*.md"), recursive=True)
+                    if os.path.basename(p) != "PORT.md")  # it tells of older names
     for page in pages:
         faults.extend(page_faults(page))
     print("\n".join(faults + [f"{tested} citations on {len(pages)} pages, {len(faults)} faults"]))
