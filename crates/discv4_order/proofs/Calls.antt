@@ -30,16 +30,16 @@ number_back (sweep now) n = refl
 number_back (closest target room) n = refl
 number_back (unclocked c) n = number_back c n
 
-number_in : (x : State) (c : Call) → number_in (told x c) ≡ answer_number x.table c
-number_in x (datagram now unix address udp key bytes) = refl
-number_in x (ping_sent now key address udp tcp hash) = refl
-number_in x (sweep now) = refl
-number_in x (closest target room) = refl
-number_in x (unclocked c) = number_back c (answer_number x.table (unclocked c))
+number_is : (x : State) (c : Call) → number_in (told x c) ≡ answer_number x.table c
+number_is x (datagram now unix address udp key bytes) = refl
+number_is x (ping_sent now key address udp tcp hash) = refl
+number_is x (sweep now) = refl
+number_is x (closest target room) = refl
+number_is x (unclocked c) = number_back c (answer_number x.table (unclocked c))
 
 pub numbers_in : (x : State) (cs : List Call) → map (λ v. number_in v.1) (answered told left x cs) ≡ answers_on answer_number table_after x.table cs
 numbers_in x [] = refl
-numbers_in x (c ∷ cs) = ap₂ (λ n ns. n ∷ ns) (number_in x c) (numbers_in (left x c) cs)
+numbers_in x (c ∷ cs) = ap₂ (λ n ns. n ∷ ns) (number_is x c) (numbers_in (left x c) cs)
 
 counted_one : (b : Bool) (k : Counters) (n : ℕ) (ns : List ℕ) → counted (cond b (raised k n) k) ns ≡ counted k (cond b (n ∷ ns) ns)
 counted_one true k n ns = refl
@@ -102,8 +102,8 @@ module _ (own : Bytes) (count : ℕ) (one : 1 ≤ count) (most : count ≤ 256) 
         let k = x.counters in
         let first = told-either c d is_c is-d in_c in-d apart in
         let second = told-either d c is-d is_c in-d in_c (λ i h g. apart i g h) in
-        let number_c : answer_number (table_after s d) c ≡ answer_number s c = sym (number_in (left x d) c) ∙ ap number_in first ∙ number_in x c in
-        let number_d : answer_number (table_after s c) d ≡ answer_number s d = sym (number_in (left x c) d) ∙ ap number_in second ∙ number_in x d in
+        let number_c : answer_number (table_after s d) c ≡ answer_number s c = sym (number_is (left x d) c) ∙ ap number_in first ∙ number_is x c in
+        let number_d : answer_number (table_after s c) d ≡ answer_number s d = sym (number_is (left x c) d) ∙ ap number_in second ∙ number_is x d in
         record {
           state =
               ap₂ (λ a b. record { table = a; counters = b })

@@ -16,7 +16,7 @@ use Rattle.call_order.specs.Order.{after}
 use Rattle.call_order.proofs.Lists.{kept-after, merges-alike}
 use Rattle.call_order.proofs.Bytes.{IsForm}
 use Rattle.discv4.specs.Library.{all_made, table_left_all}
-use Rattle.discv4.proofs.Demand3.{all_told, all_are}
+use Rattle.discv4.proofs.Demand3.{all_told_is, all_are}
 use Rattle.discv4_order.specs.Order.{State, told, left, IsLow, told_low, left_low, OrderKeeps, LeftAndRight}
 use Rattle.discv4_order.proofs.Calls.{numbers_in, left-all, e, Ok, either, commutes}
 use Rattle.discv4_order.proofs.Low.{low-commutes}
@@ -33,7 +33,7 @@ module _ (own : Bytes) (count : ℕ) (one : 1 ≤ count) (most : count ≤ 256) 
         merges = λ ps qs are are' m.
             let alike = merges-alike told left rules sound IsCall (commutes own count one most) m (all_are s ps are) (all_are s qs are') x ok in
             (left-all x ps ∙ alike.state ∙ sym (left-all x qs), alike);
-        numbers = λ ps. all_told s ps ∙ sym (numbers_in x (all_made s ps));
+        numbers = λ ps. all_told_is s ps ∙ sym (numbers_in x (all_made s ps));
         low_either = λ r c d is_c is-d in_c in-d apart. low.either x ok r c d is_c is-d in_c in-d apart;
         low_merges = λ cs ds are are' m. merges-alike told_low left_low rules sound IsLow low m are are' x ok;
       }
