@@ -1,17 +1,22 @@
 -- Laws of lists of entries by value. Assumes nothing.
 use mathlib.Core.Path.{◌≡◌, refl, sym, ap, subst, ◌∙◌}
-use mathlib.Core.Bool.{Bool, true, false, cond}
+use mathlib.Core.Bool.{Bool, true, false}
 use mathlib.Core.List.{List, [], ◌∷◌, ◌++◌, map}
-use Prim.Native.Nat.{ℕ, zero, suc, ◌+◌, ◌-◌, ◌*◌, ◌≤◌, ◌<◌}
-use native.Mathlib.Nat.{suc_inj}
+use Prim.Native.Nat.{ℕ, ◌+◌, ◌-◌, ◌*◌, ◌≤◌, ◌<◌}
 use native.Mathlib.Numerals.{add-one}
 use native.Mathlib.Omega.{arith}
 use lib.Dec.{ltb}
-use lib.ListN.{length, take, set, get_or, length-append, length-set, length-map, replicate}
-use lib.Seq.{take-suc, take-suc-set, take-set-lt, get_or-take, length-take-le, take-take}
-use borrow.Author.Tests.{lt-ltb, le-ltb}
-use Rattle.octets.specs.Octets.{Bytes, part, store, cut}
-use Rattle.octets.proofs.Laws.{cut_last, length_cut, store-append}
+use lib.ListN.{length, take, drop, set, get_or, length-append, length-set, length-map, length-drop, replicate}
+use lib.Seq.{take-suc, take-suc-set, take-set-lt, length-take-le, take-take}
+use Rattle.std.specs.List.{copy_within}
+use Rattle.std.proofs.lemmas.List.{drop-take}
+use Rattle.std.proofs.lemmas.List.Edits.{take-paste}
+use borrow.Author.Tests.{lt-ltb, le-ltb, ltb-false}
+use Rattle.std.specs.List.{position, position_or_len}
+use Rattle.std.specs.Option.{unwrap_or}
+use Rattle.std.proofs.lemmas.List.Recursion.{is_position_or_len}
+use Rattle.octets.specs.Octets.{Bytes, part, store}
+use Rattle.octets.proofs.Laws.{length_cut, store-append}
 use Rattle.lists.proofs.Laws.{by_test}
 use Rattle.entry.specs.declared.Entry.{Entry}
 use Rattle.entry.specs.Layout.{encode_entry, decode_entry, no_entry}
@@ -20,7 +25,6 @@ use Rattle.bucket_model.specs.Rules.{is_of}
 use Rattle.bucket_model.proofs.ByteForm.{length-entries_at, entries_at_next, encode_entries_next, length-encode_list}
 use Rattle.bucket.specs.declared.EntryList.{EntryList}
 use Rattle.bucket.specs.declared.Bucket.{Bucket}
-use Rattle.bucket.specs.declared.Position.{Position}
 use Rattle.bucket.specs.declared.Position.TheVariants.{Absent, InEntries, InReplacements}
 use Rattle.bucket.specs.Steps.{listed, Holds, remove_at, index_of, contents, Shows, InBounds, position_of}
 
@@ -68,15 +72,21 @@ length-remove_at l i e h hi =
     let n : length (listed l) ≡ l.len = length-listed l e h in
     length_cut i 1 (listed l) (omega arith) ∙ ap (λ k. k - 1) n
 
-pub remove_holds : (l : EntryList) (es : List Entry) (i : ℕ) → length l.items ≡ 16 → length es ≡ 16 → l.len ≤ 16 → i < l.len
-    → cut (l.len - 1) 1 (take l.len es) ≡ remove_at i (listed l)
-    → Holds (record { len = l.len - 1; items = es }) (remove_at i (listed l))
-remove_holds l es i e e' h hi shifted =
+-- those behind i moved up by one
+pub remove_holds : (l : EntryList) (i : ℕ) → length l.items ≡ 16 → l.len ≤ 16 → i < l.len
+    → Holds (record { len = l.len - 1; items = copy_within l.items (i + 1) l.len i }) (remove_at i (listed l))
+remove_holds l i e h hi =
     let c : length (remove_at i (listed l)) ≡ l.len - 1 = length-remove_at l i e h hi in
+    let n : l.len - 1 ≡ i + (l.len - (i + 1)) = omega arith in
+    let moved : take (l.len - 1) (copy_within l.items (i + 1) l.len i) ≡ take i l.items ++ take (l.len - (i + 1)) (drop (i + 1) l.items) =
+    rw n (take-paste l.items i (drop (i + 1) l.items) (l.len - (i + 1)) (omega arith) (omega (arith, length-drop (i + 1) l.items))) in
+    let kept : take i (listed l) ≡ take i l.items = take-take i l.len l.items (omega arith) in
+    let m : i + 1 + (l.len - (i + 1)) ≡ l.len = omega arith in
+    let behind : drop (i + 1) (listed l) ≡ take (l.len - (i + 1)) (drop (i + 1) l.items) = rw m at (drop-take (i + 1) (l.len - (i + 1)) l.items) in
     record {
       count = sym c;
       fits = omega arith;
-      held = sym (cut_last es l.len (l.len - 1) 1 (omega arith) (omega arith)) ∙ shifted;
+      held = cc (moved, kept, behind);
     }
 
 pub replace_holds : (l : EntryList) (i : ℕ) (e : Entry) → length l.items ≡ 16 → l.len ≤ 16 → i < l.len
@@ -92,41 +102,20 @@ replace_holds l i e w h hi =
 -- ---- finding
 
 module _ {A : Type 0} (q : A → Bool) where
-  -- none of the first i elements passes the test, and the next one does
-  pub index_of-found : (l : List A) (d : A) (i : ℕ) → i < length l → index_of q (take i l) ≡ i → q (get_or l i d) ≡ true → index_of q l ≡ i
-  index_of-found [] d i h none e = absurd (omega arith)
-  index_of-found (a ∷ l) d zero h none e = rw e refl
-  index_of-found (a ∷ l) d (suc i) h none e =
-      by_test (q a)
-      (λ t. absurd (let z : 0 ≡ suc i = rw t at none in omega arith))
-      (λ t. let less : index_of q (take i l) ≡ i = suc_inj (rw t at none) in rw t (ap suc (index_of-found l d i (omega arith) less e)))
+  index_most : (l : List A) → index_of q l ≤ length l
+  index_most [] = omega arith
+  index_most (a ∷ l) = by_test (q a) (λ t. rw t (omega arith)) (λ t. rw t (omega (arith, index_most l)))
 
-  -- the next one does not pass it either
-  pub index_of_turn : (l : List A) (d : A) (i : ℕ) → i < length l → index_of q (take i l) ≡ i → q (get_or l i d) ≡ false → index_of q (take (i + 1) l) ≡ i + 1
-  index_of_turn l d i h none e = rw add-one (go l i h none e)
-    where
-      go : (l : List A) (i : ℕ) → i < length l → index_of q (take i l) ≡ i → q (get_or l i d) ≡ false → index_of q (take (suc i) l) ≡ suc i
-      go [] i h none e = absurd (omega arith)
-      go (a ∷ l) zero h none e = rw e refl
-      go (a ∷ l) (suc i) h none e =
-          by_test (q a)
-          (λ t. absurd (let z : 0 ≡ suc i = rw t at none in omega arith))
-          (λ t. let less : index_of q (take i l) ≡ i = suc_inj (rw t at none) in rw t (ap suc (go l i (omega arith) less e)))
+  by_position : (l : List A) → index_of q l ≡ position_or_len q l
+  by_position l = is_position_or_len (index_of q) q refl (λ x xs. by_test (q x) (λ t. rw t refl) (λ t. rw t (omega arith))) l
 
--- the ways out of `find`, and its turn, with `is` what `has_key` answers
-module _ (l : EntryList) (key : Bytes) (i : ℕ) (w : length l.items ≡ 16) (h : l.len ≤ 16) (none : index_of (is_of key) (take i l.items) ≡ i) where
-  pub find-found : i < l.len → {is : Bool} → is ≡ is_of key (get_or l.items i no_entry) → is ≡ true → i ≡ index_of (is_of key) (listed l)
-  find-found less e t =
-      let at : is_of key (get_or (listed l) i no_entry) ≡ true =
-      ap (λ x. is_of key x) (get_or-take l.len l.items i no_entry less) ∙ sym e ∙ t in
-      let before : index_of (is_of key) (take i (listed l)) ≡ i = rw (take-take i l.len l.items (omega arith)) none in
-      sym (index_of-found (is_of key) (listed l) no_entry i (omega (arith, length-listed l w h)) before at)
-
-  pub find-turn : i < l.len → {is : Bool} → is ≡ is_of key (get_or l.items i no_entry) → is ≡ false → index_of (is_of key) (take (i + 1) l.items) ≡ i + 1
-  find-turn less e t = index_of_turn (is_of key) l.items no_entry i (omega arith) none (sym e ∙ t)
-
-  pub find_none : i ≡ l.len → l.len ≡ index_of (is_of key) (listed l)
-  find_none e = sym (rw e at none)
+  -- the library's position, and n where there is none
+  pub index_found : (l : List A) (n : ℕ) → length l ≡ n → unwrap_or (position q l) n ≡ index_of q l
+  index_found l n size =
+      let i : ℕ = index_of q l in
+      by_test (ltb i (length l))
+      (λ t. rw (← by_position l, t) refl)
+      (λ t. let most : n ≡ i = omega (arith, ltb-false i (length l) t, index_most l) in rw (← by_position l, t) most)
 
 module _ (b : Bucket) (key : Bytes) (n : length (listed b.entries) ≡ b.entries.len) (k : length (listed b.replacements) ≡ b.replacements.len)
     {i : ℕ} (ei : i ≡ index_of (is_of key) (listed b.entries)) where

@@ -1,7 +1,7 @@
 // A bucket by value: its entries from head to tail, and its replacements in order.
 #![tactic(auto)]
 
-ghost use Rattle.std.specs.Prelude.{◌≡◌, [], ◌∷◌, ◌++◌, ◌+◌, ◌*◌, ◌≤◌, ◌<◌, ltb, length, get_or, set};
+ghost use Rattle.std.specs.Prelude.{◌≡◌, [], ◌∷◌, ◌++◌, ◌+◌, ◌*◌, ◌≤◌, ◌<◌, ltb, length, get_or, set, position};
 ghost use Rattle.octets.specs.Octets.{part, store};
 ghost use Rattle.bucket_model.specs.Contents.{no_contents, entries_at, encode_entries, encode_list, encode_bucket, decode_bucket};
 ghost use Rattle.bucket_model.specs.Rules.{is_of, free_entry};
@@ -24,6 +24,7 @@ pub struct Bucket {
 }
 
 // Where a node is held: in which list, at which index.
+// kept: a match has three arms either way, and an Option nests two of them.
 #[derive(Clone, Copy)]
 pub enum Position {
     Absent,
@@ -47,10 +48,9 @@ impl EntryList {
         requires { self.len < 16 }
         ensures { Holds result (listed self ++ (e ∷ [])) }
     {
-        let at = self.len;
         let mut l = self;
-        l.items[at] = e;
-        l.len = at + 1;
+        l.items[l.len] = e;
+        l.len += 1;
         l
     }
 
@@ -59,15 +59,9 @@ impl EntryList {
         requires { (i < self.len) × (self.len ≤ 16) }
         ensures { Holds result (remove_at i (listed self)) }
     {
-        let last = self.len - 1;
         let mut l = self;
-        let mut k = i;
-        while k < last {
-            let next = l.items[k + 1];
-            l.items[k] = next;
-            k += 1;
-        }
-        l.len = last;
+        l.items.copy_within(i + 1..self.len, i);
+        l.len = self.len - 1;
         l
     }
 
@@ -94,24 +88,22 @@ impl EntryList {
         requires { self.len ≤ 16 }
         ensures { result ≡ index_of (is_of key.now) (listed self) }
     {
-        let len = self.len;
-        let mut i = 0;
-        while i < len {
-            let e = self.items[i];
-            if has_key(e, key) {
-                return i;
-            }
-            i += 1;
-        }
-        len
+        self.place(key).unwrap_or(self.len)
+    }
+
+    // The index of the first entry with this key.
+    fn place(&self, key: &[u8]) -> Option<usize>
+        requires { self.now.len ≤ 16 }
+        ensures { result ≡ position (is_of key.now) (listed self.now) }
+    {
+        self.items[..self.len].iter().position(|e| has_key(e, key))
     }
 }
 
-fn has_key(e: Entry, key: &[u8]) -> bool
-    ensures { result ≡ is_of key.now e }
+fn has_key(e: &Entry, key: &[u8]) -> bool
+    ensures { result ≡ is_of key.now e.now }
 {
-    let held = e.key;
-    octets::same_bytes(key, &held)
+    octets::same_bytes(key, &e.key)
 }
 
 // The `n` entries whose bytes start at index `at`.
@@ -120,11 +112,8 @@ fn load_list(bytes: &[u8], at: usize, n: usize) -> EntryList
     ensures { Holds result (entries_at bytes.now at n) }
 {
     let mut l = EntryList::empty();
-    let mut i = 0;
-    while i < n {
-        let e = entry::load_entry(bytes, at + i * Entry::SIZE);
-        l.items[i] = e;
-        i += 1;
+    for i in 0..n {
+        l.items[i] = entry::load_entry(bytes, at + i * Entry::SIZE);
     }
     l.len = n;
     l
@@ -135,12 +124,8 @@ fn store_entries(bytes: &mut [u8], at: usize, l: EntryList)
     ensures bytes_after { bytes.new ≡ store bytes.old at (encode_entries (listed l)) }
     ensures l_len { length (encode_entries (listed l)) ≡ l.len * 143 }
 {
-    let len = l.len;
-    let mut i = 0;
-    while i < len {
-        let e = l.items[i];
-        entry::store_entry(bytes, at + i * Entry::SIZE, e);
-        i += 1;
+    for i in 0..l.len {
+        entry::store_entry(bytes, at + i * Entry::SIZE, l.items[i]);
     }
 }
 
@@ -150,9 +135,8 @@ fn store_list(bytes: &mut [u8], at: usize, l: EntryList, cap: usize)
     ensures bytes_after { bytes.new ≡ store bytes.old at (encode_list cap (listed l)) }
     ensures l_len { length (encode_list cap (listed l)) ≡ cap * 143 }
 {
-    let len = l.len;
     store_entries(bytes, at, l);
-    octets::put_zeros(bytes, at + len * Entry::SIZE, (cap - len) * Entry::SIZE);
+    octets::put_zeros(bytes, at + l.len * Entry::SIZE, (cap - l.len) * Entry::SIZE);
 }
 
 impl Bucket {
@@ -183,8 +167,7 @@ impl Bucket {
         requires { self.entries.len ≤ 16 }
         ensures { result ≡ free_entry (contents self) }
     {
-        let entries = self.entries;
-        entries.len < Bucket::ENTRIES
+        self.entries.len < Bucket::ENTRIES
     }
 
     // Where the node with this key is held.
@@ -192,14 +175,12 @@ impl Bucket {
         requires { InBounds self }
         ensures { result ≡ position_of key.now (contents self) }
     {
-        let entries = self.entries;
-        let i = entries.find(key);
-        if i < entries.len {
+        let i = self.entries.find(key);
+        if i < self.entries.len {
             return Position::InEntries(i);
         }
-        let replacements = self.replacements;
-        let j = replacements.find(key);
-        if j < replacements.len {
+        let j = self.replacements.find(key);
+        if j < self.replacements.len {
             return Position::InReplacements(j);
         }
         Position::Absent
@@ -226,15 +207,13 @@ impl Bucket {
         ensures bytes_after { bytes.new ≡ store bytes.old at (encode_bucket (contents self)) }
         ensures self_len { length (encode_bucket (contents self)) ≡ 2862 }
     {
-        let entries = self.entries;
-        let replacements = self.replacements;
-        octets::put_byte(bytes, at, entries.len as u8);
-        octets::put_byte(bytes, at + 1, replacements.len as u8);
-        store_list(bytes, at + 2, entries, Bucket::ENTRIES);
+        octets::put_byte(bytes, at, self.entries.len as u8);
+        octets::put_byte(bytes, at + 1, self.replacements.len as u8);
+        store_list(bytes, at + 2, self.entries, Bucket::ENTRIES);
         store_list(
             bytes,
             at + Bucket::REPLACEMENTS_AT,
-            replacements,
+            self.replacements,
             Bucket::REPLACEMENTS,
         );
     }

@@ -14,44 +14,38 @@ use node::{Endpoint, MonotonicMillis};
 pub fn both(a: bool, b: bool) -> bool
     ensures { result ≡ (a && b) }
 {
-    if a { b } else { false }
+    a && b
 }
 
 fn same_address(e: Endpoint, address: &[u8]) -> bool
     ensures { result ≡ same_bytes address.now (address_of e) }
 {
-    let held = e.address;
     let len = e.len as usize;
     if len < 16 {
-        return octets::same_bytes(address, &held[..len]);
+        return octets::same_bytes(address, &e.address[..len]);
     }
-    octets::same_bytes(address, &held)
+    octets::same_bytes(address, &e.address)
 }
 
 // Held at this address and UDP port.
 pub fn is_at(e: Entry, address: &[u8], udp: u16) -> bool
     ensures { result ≡ is_at address.now udp e }
 {
-    let endpoint = e.endpoint;
-    both(same_address(endpoint, address), udp == endpoint.udp)
+    same_address(e.endpoint, address) && udp == e.endpoint.udp
 }
 
 // Document 01's verified.
 pub fn is_verified(e: Entry, address: &[u8], udp: u16, clock: MonotonicMillis) -> bool
     ensures { result ≡ is_verified clock.0 address.now udp e }
 {
-    let proof = e.proof;
-    both(is_at(e, address, udp), proof_holds(proof, clock))
+    is_at(e, address, udp) && proof_holds(e.proof, clock)
 }
 
 // Document 01's awaited, of a pong with this ping hash.
 pub fn is_awaited(e: Entry, hash: &[u8], address: &[u8], udp: u16) -> bool
     ensures { result ≡ is_awaited hash.now address.now udp e }
 {
-    let ping = e.ping;
-    let sent = e.hash;
-    let agrees = both(octets::same_bytes(hash, &sent), is_at(e, address, udp));
-    both(is_out(ping), agrees)
+    is_out(e.ping) && octets::same_bytes(hash, &e.hash) && is_at(e, address, udp)
 }
 
 // A ping with this hash went out now.
@@ -59,19 +53,12 @@ pub fn pinged(e: Entry, hash: &[u8], clock: MonotonicMillis) -> Entry
     requires { length hash.now ≡ 32 }
     ensures { result ≡ pinged clock.0 hash.now e }
 {
-    let key = e.key;
-    let endpoint = e.endpoint;
-    let seen = e.seen;
-    let proof = e.proof;
     let mut sent = [0u8; 32];
     octets::get_bytes(&mut sent, hash, 0);
     Entry {
-        key,
-        endpoint,
-        seen,
-        proof,
         ping: PingState::Out(clock),
         hash: sent,
+        ..e
     }
 }
 
@@ -79,16 +66,11 @@ pub fn pinged(e: Entry, hash: &[u8], clock: MonotonicMillis) -> Entry
 pub fn ponged(e: Entry, clock: MonotonicMillis) -> Entry
     ensures { result ≡ ponged clock.0 e }
 {
-    let key = e.key;
-    let endpoint = e.endpoint;
-    let hash = e.hash;
     Entry {
-        key,
-        endpoint,
         seen: clock,
         proof: EndpointProof::At(clock),
         ping: PingState::Quiet,
-        hash,
+        ..e
     }
 }
 
@@ -96,19 +78,7 @@ pub fn ponged(e: Entry, clock: MonotonicMillis) -> Entry
 pub fn heard(e: Entry, clock: MonotonicMillis) -> Entry
     ensures { result ≡ heard clock.0 e }
 {
-    let key = e.key;
-    let endpoint = e.endpoint;
-    let proof = e.proof;
-    let ping = e.ping;
-    let hash = e.hash;
-    Entry {
-        key,
-        endpoint,
-        seen: clock,
-        proof,
-        ping,
-        hash,
-    }
+    Entry { seen: clock, ..e }
 }
 
 pub fn endpoint_of(address: &[u8], udp: u16, tcp: u16) -> Endpoint

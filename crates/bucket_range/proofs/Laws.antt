@@ -1,23 +1,22 @@
 -- Laws of ranges and of counting them. Assumes nothing.
 use Prim.Native.Nat.{ℕ, ◌+◌, ◌≤◌, ◌<◌}
 use mathlib.Core.Path.{◌≡◌, refl, sym, ap, ◌∙◌}
-use mathlib.Core.Bool.{Bool, true, false, cond, not, ◌&&◌, and-false}
-use mathlib.Core.List.{List, [], ◌∷◌, ◌++◌}
-use native.Mathlib.Nat.{add-zero}
-use native.Mathlib.Numerals.{add-one}
+use mathlib.Core.Bool.{Bool, true, false, cond, not, and-false}
+use mathlib.Core.List.{List, ◌∷◌}
 use native.Mathlib.Omega.{arith}
 use borrow.Author.Tests.{eq-eqb, ne_eqb}
-use lib.Dec.{eqb, ltb}
-use lib.ListN.{length, get_or, take, drop, length-append}
-use lib.Seq.{take-suc, length-take-le}
-use Rattle.octets.specs.Octets.{Bytes, part, same_bytes}
+use lib.Dec.{ltb}
+use lib.ListN.{length, get_or, take}
+use Rattle.std.specs.Int.{from_bool}
+use Rattle.std.specs.List.{count_by}
+use Rattle.std.proofs.lemmas.List.Recursion.{is_count_by}
+use Rattle.octets.specs.Octets.{part, same_bytes}
 use Rattle.octets.proofs.Laws.{get_d_part, same_eq}
 use Rattle.lists.specs.Lists.{select}
-use Rattle.lists.proofs.Laws.{by_test, select-append, length-select}
+use Rattle.lists.proofs.Laws.{by_test}
 use Rattle.node.specs.declared.Endpoint.{Endpoint}
 use Rattle.entry.specs.declared.Entry.{Entry}
-use Rattle.entry.specs.Layout.{no_entry}
-use Rattle.bucket_model.specs.Rules.{max_entries, same_range, range_count, range_full, may_take}
+use Rattle.bucket_model.specs.Rules.{same_range, range_count, range_full, may_take}
 use Rattle.bucket_model.proofs.Ranges.{take_room}
 use Rattle.bucket.specs.declared.EntryList.{EntryList}
 use Rattle.bucket.specs.Steps.{listed}
@@ -45,39 +44,23 @@ module _ (a b : Endpoint) where
 
 -- ---- counted
 
+-- a flag as a number
+pub as_number : (b : Bool) → from_bool b ≡ cond b 1 0
+as_number true = refl
+as_number false = refl
+
 pub counted : (b : Bool) {k : ℕ} → k ≡ cond b 1 0 → k ≤ 1
 counted true e = omega arith
 counted false e = omega arith
 
-pub count_none : (a : Endpoint) → 0 ≡ range_count a []
+-- those of the range, by the library's count
+pub counted_by : (a : Endpoint) (es : List Entry) → count_by (λ e. same_range a e.endpoint) es ≡ range_count a es
 unfolding range_count
-count_none a = refl
-
-pub count_most : (a : Endpoint) (es : List Entry) (i : ℕ) → i ≤ length es → range_count a (take i es) ≤ i
-unfolding range_count
-count_most a es i h = omega (arith, length-select (λ e. same_range a e.endpoint) (take i es), length-take-le i es h)
-
--- one more is counted
-pub count_turn : (a : Endpoint) (es : List Entry) (i n : ℕ) {b : Bool} {k : ℕ} → i < length es → n ≡ range_count a (take i es)
-    → b ≡ same_range a (get_or es i no_entry).endpoint → k ≡ cond b 1 0 → n + k ≡ range_count a (take (i + 1) es)
-unfolding range_count
-count_turn a es i n {b} {k} h is eb ek =
+counted_by a es =
     let q : Entry → Bool = λ e. same_range a e.endpoint in
-    let x : Entry = get_or es i no_entry in
-    let t : take (i + 1) es ≡ take i es ++ (x ∷ []) = rw add-one (take-suc es i no_entry h) in
-    let s : length (select q (take (i + 1) es)) ≡ length (select q (take i es)) + length (select q (x ∷ [])) =
-    ap (λ l. length (select q l)) t ∙ ap length (select-append q (take i es) (x ∷ [])) ∙ length-append (select q (take i es)) (select q (x ∷ [])) in
-    by_test b
-    (λ yes.
-    let one : k ≡ 1 = rw yes at ek in
-    let passes : q x ≡ true = sym eb ∙ yes in
-    let last : length (select q (x ∷ [])) ≡ 1 = rw passes refl in
-    omega arith)
-    (λ no.
-    let none : k ≡ 0 = rw no at ek in
-    let fails : q x ≡ false = sym eb ∙ no in
-    let last : length (select q (x ∷ [])) ≡ 0 = rw fails refl in
-    omega arith)
+    let turn : (x : Entry) (xs : List Entry) → length (select q (x ∷ xs)) ≡ cond (q x) (1 + length (select q xs)) (length (select q xs)) =
+    λ x xs. by_test (q x) (λ t. rw t (omega arith)) (λ t. rw t refl) in
+    sym (is_count_by (λ l. length (select q l)) q refl turn es)
 
 -- ---- who may take an entry
 

@@ -1,22 +1,22 @@
 -- Ranges on the bytes of records, and the turns of the loops over them, each as "what is left to do". Assumes nothing.
-use Prim.Native.Nat.{ℕ, zero, suc, ◌+◌, ◌-◌, ◌*◌, ◌≤◌, ◌<◌}
+use Prim.Native.Nat.{ℕ, suc, ◌+◌, ◌-◌, ◌*◌, ◌≤◌, ◌<◌}
 use mathlib.Core.Path.{◌≡◌, refl, sym, ap, ◌∙◌}
 use mathlib.Core.Bool.{Bool, true, false, cond, not, ◌&&◌, and-false}
 use mathlib.Core.List.{◌∷◌}
 use native.Mathlib.Omega.{arith}
 use borrow.Author.Tests.{eq-eqb, ne_eqb, le-leb, lt-leb, lt-ltb, le-ltb, ltb-true, ltb-false}
 use lib.Dec.{eqb, leb, ltb}
-use lib.ListN.{length, get_or, take, drop}
+use lib.ListN.{get_or, take, drop}
 use Rattle.octets.specs.Octets.{Bytes, part, same_bytes}
 use Rattle.octets.proofs.Laws.{part-part, get_d_part, same_eq}
-use Rattle.lists.specs.Lists.{select, all}
+use Rattle.lists.specs.Lists.{all}
 use Rattle.lists.proofs.Laws.{by_test}
 use Rattle.node.specs.declared.Endpoint.{Endpoint}
 use Rattle.entry.specs.declared.Entry.{Entry}
-use Rattle.entry.specs.Layout.{decode_entry, decode_endpoint, decode_stamp, proof_of}
+use Rattle.entry.specs.Layout.{decode_entry, decode_stamp}
 use Rattle.entry.proofs.Laws.{decode-entry, decode-endpoint}
 use Rattle.bucket_model.specs.Contents.{entries_at}
-use Rattle.bucket_model.specs.Rules.{max_entries, max_of_range, is_proved, same_range, range_count, range_full, may_take, is_promoted}
+use Rattle.bucket_model.specs.Rules.{max_entries, max_of_range, is_proved, same_range, range_count, may_take, is_promoted}
 use Rattle.bucket_model.specs.Sound.{ranges_kept}
 use Rattle.bucket_model.proofs.ByteForm.{length-entries_at}
 use Rattle.bucket_range.proofs.Later.{too_many, no_more}

@@ -38,7 +38,7 @@ pub fn same_range(a: Endpoint, b: Endpoint) -> bool
 pub fn count(b: bool) -> usize
     ensures { result ≡ cond b 1 0 }
 {
-    if b { 1 } else { 0 }
+    usize::from(b)
 }
 
 // How many entries of a list share the endpoint's range.
@@ -46,16 +46,10 @@ fn range_count(l: EntryList, a: Endpoint) -> usize
     requires { l.len ≤ 16 }
     ensures { result ≡ range_count a (listed l) }
 {
-    let len = l.len;
-    let mut n = 0;
-    let mut i = 0;
-    while i < len {
-        let e = l.items[i];
-        let b = e.endpoint;
-        n += count(same_range(a, b));
-        i += 1;
-    }
-    n
+    l.items[..l.len]
+        .iter()
+        .filter(|e| same_range(a, e.endpoint))
+        .count()
 }
 
 // Whether the endpoint's range has all the entries that it may have.
@@ -106,10 +100,8 @@ fn range_count_at(bytes: &[u8], a: usize, at: usize, n: usize) -> usize
     ensures { result ≡ range_count (decode_entry (part bytes.now a 143)).endpoint (entries_at bytes.now at n) }
 {
     let mut k = 0;
-    let mut i = 0;
-    while i < n {
-        k += count(same_range_at(bytes, a, at + i * Entry::SIZE));
-        i += 1;
+    for i in 0..n {
+        k += usize::from(same_range_at(bytes, a, at + i * Entry::SIZE));
     }
     k
 }
@@ -119,13 +111,11 @@ pub fn ranges_kept(bytes: &[u8], at: usize, n: usize) -> bool
     requires { (at + n * 143 ≤ length bytes.now) × (n ≤ 16) }
     ensures { result ≡ ranges_kept (entries_at bytes.now at n) }
 {
-    let mut i = 0;
-    while i < n {
+    for i in 0..n {
         let a = at + i * Entry::SIZE;
         if MOST <= range_count_at(bytes, a, a + Entry::SIZE, n - i - 1) {
             return false;
         }
-        i += 1;
     }
     true
 }
@@ -149,12 +139,10 @@ pub fn line_settled(bytes: &[u8], at: usize, n: usize, line: usize, m: usize) ->
     requires { ((at + n * 143 ≤ length bytes.now) × (n ≤ 16)) × ((line + m * 143 ≤ length bytes.now) × (m ≤ 16)) }
     ensures { result ≡ all (λ e. not (is_promoted (entries_at bytes.now at n) e)) (entries_at bytes.now line m) }
 {
-    let mut i = 0;
-    while i < m {
+    for i in 0..m {
         if is_promoted_at(bytes, line + i * Entry::SIZE, at, n) {
             return false;
         }
-        i += 1;
     }
     true
 }

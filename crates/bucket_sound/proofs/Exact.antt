@@ -18,7 +18,7 @@ use Rattle.entry.specs.Layout.{decode_entry, decode_endpoint, decode_stamp, proo
 use Rattle.entry.proofs.Laws.{decode-entry}
 use Rattle.bucket_model.specs.Contents.{entries_at, encode_bucket, decode_bucket}
 use Rattle.bucket_model.specs.Rules.{is_of, is_proved, is_out, is_promoted}
-use Rattle.bucket_model.specs.Sound.{proof_by, ping_by, in_time, address_form, entry_sound, may_wait, ranges_kept, distinct, keeps_rules, sound}
+use Rattle.bucket_model.specs.Sound.{proof_by, ping_by, address_form, entry_sound, may_wait, ranges_kept, distinct, keeps_rules, sound}
 use Rattle.bucket_model.proofs.ByteForm.{entries_at-part}
 use Rattle.bucket_sound.specs.Steps.{stamp_form, stamp_by, may_stand, record_sound, all_records, keys_apart}
 use Rattle.bucket_sound.proofs.Tests.{both_ways, and_intro, and_same, and_true, not_or, all_append, all_same}

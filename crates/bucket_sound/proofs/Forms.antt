@@ -1,23 +1,21 @@
 -- The byte form of what bytes hold, record by record. Assumes nothing.
 use mathlib.Core.Path.{◌≡◌, refl, sym, ap, ◌∙◌}
-use mathlib.Core.Bool.{Bool, true, false, cond, not, ◌&&◌, ◌||◌}
+use mathlib.Core.Bool.{Bool, true, cond, ◌&&◌}
 use mathlib.Core.List.{List, [], ◌∷◌, ◌++◌}
 use Prim.Native.Nat.{ℕ, zero, suc, ◌+◌, ◌-◌, ◌*◌, ◌≤◌}
-use native.Mathlib.Nat.{zero-add}
 use native.Mathlib.Omega.{arith}
 use borrow.Author.Tests.{eqb-true, eq-eqb}
 use lib.Dec.{eqb}
 use lib.ListN.{length, get_or, take, replicate, length-append}
 use lib.Seq.{drop-cons, take_all}
 use Rattle.octets.specs.Octets.{Bytes, IsBytes, part, number, big_endian, same_bytes}
-use Rattle.octets.proofs.Laws.{length_part, part-part, part_all, get_d_part, bytes_part, length-big_endian, big_endian-number, number-big_endian, same_refl, same_eq}
+use Rattle.octets.proofs.Laws.{length_part, part_all, bytes_part, big_endian-number, number-big_endian, same_refl, same_eq}
 use Rattle.lists.proofs.Laws.{by_test}
 use Rattle.entry.specs.declared.Stamp.{Stamp}
-use Rattle.node.specs.declared.Endpoint.{Endpoint}
 use Rattle.entry.specs.declared.Entry.{Entry}
 use Rattle.entry.specs.Layout.{encode_entry, decode_entry, encode_endpoint, decode_endpoint, encode_stamp, decode_stamp, proof_stamp, proof_of, ping_stamp, ping_of}
-use Rattle.entry.proofs.Laws.{IsEntry, length-encode_entry, length-encode_stamp, decode-endpoint, decode-entry}
-use Rattle.bucket_model.specs.Contents.{Contents, entries_at, encode_entries, encode_list, encode_bucket, decode_bucket}
+use Rattle.entry.proofs.Laws.{length-encode_entry, length-encode_stamp, decode-endpoint, decode-entry}
+use Rattle.bucket_model.specs.Contents.{entries_at, encode_entries, encode_list, encode_bucket, decode_bucket}
 use Rattle.bucket_model.proofs.ByteForm.{length-entries_at, decode_is_entry, entries_at_are, length-encode_entries, length-encode_list}
 use Rattle.bucket_sound.specs.Steps.{stamp_form, all_records}
 use Rattle.bucket_sound.proofs.Tests.{both_ways, and_true, or_false, same_append, part-row}

@@ -1,20 +1,19 @@
 -- The turns of the loops over records, each as "what is left to do". Assumes nothing.
 use mathlib.Core.Path.{◌≡◌, refl, sym, ap, ◌∙◌}
 use mathlib.Core.Bool.{Bool, true, false, cond, not, ◌&&◌, ◌||◌}
-use mathlib.Core.List.{List, [], ◌∷◌}
 use Prim.Native.Nat.{ℕ, zero, suc, ◌+◌, ◌-◌, ◌*◌, ◌≤◌, ◌<◌}
 use native.Mathlib.Omega.{arith}
 use borrow.Author.Tests.{eq-eqb, ne_eqb, eqb-true, eqb-false}
 use lib.Bits.{bit_or, or_add_and, and_le_l, and_le_r}
 use lib.Dec.{eqb}
-use lib.ListN.{length, get_or, take, drop, replicate}
-use lib.Seq.{drop-cons}
+use lib.ListN.{length, get_or, take, drop, replicate, length-drop, drop_of_length-le}
+use lib.Seq.{drop-cons, length-take-le}
 use Rattle.octets.specs.Octets.{Bytes, part, same_bytes}
 use Rattle.octets.proofs.Laws.{part-part, same_refl, same_eq}
 use Rattle.lists.specs.Lists.{any}
 use Rattle.lists.proofs.Laws.{by_test}
 use Rattle.entry.specs.declared.Stamp.{Stamp}
-use Rattle.entry.specs.Layout.{decode_entry, decode_endpoint, proof_of, ping_of}
+use Rattle.entry.specs.Layout.{decode_endpoint, proof_of, ping_of}
 use Rattle.entry.proofs.Laws.{decode-entry, decode-endpoint}
 use Rattle.bucket_model.specs.Contents.{entries_at}
 use Rattle.bucket_model.specs.Rules.{is_of, is_proved, is_out}
@@ -25,24 +24,23 @@ use Rattle.bucket_sound.proofs.Tests.{both_ways}
 
 -- ---- zeros
 
-zeros_left : (s : Bytes) (at n i : ℕ) → at + n ≤ length s → i < n
-    → same_bytes (replicate (n - i) 0) (part s (at + i) (n - i))
-    ≡ (eqb 0 (get_or s (at + i) 0) && same_bytes (replicate (n - (i + 1)) 0) (part s (at + (i + 1)) (n - (i + 1))))
-unfolding part same_bytes
-zeros_left s at n i h less =
+zeros_left : (xs : Bytes) (n i : ℕ) → length xs ≡ n → i < n
+    → same_bytes (replicate (n - i) 0) (drop i xs) ≡ (eqb 0 (get_or xs i 0) && same_bytes (replicate (n - (i + 1)) 0) (drop (i + 1) xs))
+unfolding same_bytes
+zeros_left xs n i size less =
     let e : n - i ≡ suc (n - (i + 1)) = omega arith in
-    let f : suc (at + i) ≡ at + (i + 1) = omega arith in
-    rw (e, drop-cons s (at + i) 0 (omega arith), f) refl
+    let f : suc i ≡ i + 1 = omega arith in
+    rw (e, drop-cons xs i 0 (omega arith), f) refl
 
-pub zeros_start : (s : Bytes) (at n : ℕ) → same_bytes (replicate n 0) (part s at n) ≡ same_bytes (replicate (n - 0) 0) (part s (at + 0) (n - 0))
-zeros_start s at n =
-    let e : n ≡ n - 0 = omega arith in
-    let f : at ≡ at + 0 = omega arith in
-    ap (λ k. same_bytes (replicate k 0) (part s at k)) e ∙ ap (λ k. same_bytes (replicate (n - 0) 0) (part s k (n - 0))) f
+pub zeros_start : (xs : Bytes) (n : ℕ) → same_bytes (replicate n 0) xs ≡ same_bytes (replicate (n - 0) 0) (drop 0 xs)
+zeros_start xs n = let e : n ≡ n - 0 = omega arith in ap (λ k. same_bytes (replicate k 0) xs) e
 
-zeros_end : (s : Bytes) (at n i : ℕ) → n ≤ i → same_bytes (replicate (n - i) 0) (part s (at + i) (n - i)) ≡ true
-unfolding same_bytes part
-zeros_end s at n i h = let e : n - i ≡ 0 = omega arith in rw e refl
+zeros_end : (xs : Bytes) (n i : ℕ) → length xs ≡ n → n ≤ i → same_bytes (replicate (n - i) 0) (drop i xs) ≡ true
+unfolding same_bytes
+zeros_end xs n i size h =
+    let e : n - i ≡ 0 = omega arith in
+    let past : length xs ≤ i = omega arith in
+    rw (e, drop_of_length-le xs past) refl
 
 and_assoc : (a b c : Bool) → ((a && b) && c) ≡ (a && (b && c))
 and_assoc true b c = refl
@@ -63,22 +61,22 @@ or_zero a b =
     (λ hb. h ∙ sym (rw (ha, hb) refl)))
     (λ ha. h ∙ sym (rw ha refl)))
 
-pub zeros_turn : (s : Bytes) (at n i any : ℕ) → at + n ≤ length s → i < n
-    → (eqb (bit_or any (get_or s (at + i) 0)) 0 && same_bytes (replicate (n - (i + 1)) 0) (part s (at + (i + 1)) (n - (i + 1))))
-    ≡ (eqb any 0 && same_bytes (replicate (n - i) 0) (part s (at + i) (n - i)))
-zeros_turn s at n i any h less =
-    let rest : Bool = same_bytes (replicate (n - (i + 1)) 0) (part s (at + (i + 1)) (n - (i + 1))) in
-    ap (λ b. b && rest) (or_zero any (get_or s (at + i) 0))
-    ∙ and_assoc (eqb any 0) (eqb 0 (get_or s (at + i) 0)) rest
-    ∙ ap (λ b. eqb any 0 && b) (sym (zeros_left s at n i h less))
+pub zeros_turn : (xs : Bytes) (n i any : ℕ) → length xs ≡ n → i < n
+    → (eqb (bit_or any (get_or xs i 0)) 0 && same_bytes (replicate (n - (i + 1)) 0) (drop (i + 1) xs))
+    ≡ (eqb any 0 && same_bytes (replicate (n - i) 0) (drop i xs))
+zeros_turn xs n i any size less =
+    let rest : Bool = same_bytes (replicate (n - (i + 1)) 0) (drop (i + 1) xs) in
+    ap (λ b. b && rest) (or_zero any (get_or xs i 0))
+    ∙ and_assoc (eqb any 0) (eqb 0 (get_or xs i 0)) rest
+    ∙ ap (λ b. eqb any 0 && b) (sym (zeros_left xs n i size less))
 
 and_true : (a : Bool) → (a && true) ≡ a
 and_true true = refl
 and_true false = refl
 
-pub zeros_done : (s : Bytes) (at n i any : ℕ) → n ≤ i
-    → (eqb any 0 && same_bytes (replicate (n - i) 0) (part s (at + i) (n - i))) ≡ eqb any 0
-zeros_done s at n i any h = ap (λ b. eqb any 0 && b) (zeros_end s at n i h) ∙ and_true (eqb any 0)
+pub zeros_done : (xs : Bytes) (n i any : ℕ) → length xs ≡ n → n ≤ i
+    → (eqb any 0 && same_bytes (replicate (n - i) 0) (drop i xs)) ≡ eqb any 0
+zeros_done xs n i any size h = ap (λ b. eqb any 0 && b) (zeros_end xs n i size h) ∙ and_true (eqb any 0)
 
 -- ---- stamps
 
@@ -157,12 +155,17 @@ no_keys s at other m = refl
 
 -- ---- parts that are lent
 
-pub lent : (s : Bytes) (at : ℕ) → take (at + 64 - at) (drop at s) ≡ part s at 64
+pub lent : (s : Bytes) (at n : ℕ) → take (at + n - at) (drop at s) ≡ part s at n
 unfolding part
-lent s at = let e : at + 64 - at ≡ 64 = omega arith in ap (λ k. take k (drop at s)) e
+lent s at n = let e : at + n - at ≡ n = omega arith in ap (λ k. take k (drop at s)) e
+
+pub length-lent : (s : Bytes) (at n : ℕ) → at + n ≤ length s → length (take (at + n - at) (drop at s)) ≡ n
+length-lent s at n h =
+    let e : at + n - at ≡ n = omega arith in
+    rw e (length-take-le n (drop at s) (omega (arith, length-drop at s)))
 
 pub lent_both : (s : Bytes) (a b : ℕ) {r : Bool} → r ≡ same_bytes (take (a + 64 - a) (drop a s)) (take (b + 64 - b) (drop b s)) → r ≡ same_bytes (part s a 64) (part s b 64)
-lent_both s a b e = e ∙ ap (λ x. same_bytes x (take (b + 64 - b) (drop b s))) (lent s a) ∙ ap (λ x. same_bytes (part s a 64) x) (lent s b)
+lent_both s a b e = e ∙ ap (λ x. same_bytes x (take (b + 64 - b) (drop b s))) (lent s a 64) ∙ ap (λ x. same_bytes (part s a 64) x) (lent s b 64)
 
 -- ---- addresses
 

@@ -1,5 +1,5 @@
 -- Soundness of a bucket record by record, as the bytes lie.
-use Rattle.std.specs.Prelude.{ℕ, zero, suc, ◌+◌, Bool, true, false, cond, not, ◌&&◌, ◌||◌, [], ◌++◌, eqb, leb}
+use Rattle.std.specs.Prelude.{ℕ, zero, suc, ◌+◌, Bool, true, cond, not, ◌&&◌, ◌||◌, eqb, leb}
 use Rattle.octets.specs.Octets.{Bytes, part, same_bytes}
 use Rattle.lists.specs.Lists.{any}
 use Rattle.distance.specs.Distance.{home}

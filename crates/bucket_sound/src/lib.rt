@@ -48,11 +48,9 @@ fn zeros(bytes: &[u8], at: usize, n: usize) -> bool
     requires { at + n ≤ length bytes.now }
     ensures { result ≡ same_bytes (replicate n 0) (part bytes.now at n) }
 {
-    let mut any: u8 = 0;
-    let mut i = 0;
-    while i < n {
-        any = any | bytes[at + i];
-        i += 1;
+    let mut any = 0;
+    for b in &bytes[at..at + n] {
+        any |= *b;
     }
     any == 0
 }
@@ -132,8 +130,7 @@ fn records_sound(
     requires { (at + n * 143 ≤ length bytes.now) × ((n ≤ 16) × (length own.now ≡ 32)) }
     ensures { result ≡ all_records (record_sound (home_if tested own.now number) clock.0 proved unproved) bytes.now at n }
 {
-    let mut i = 0;
-    while i < n {
+    for i in 0..n {
         if !record_sound(
             bytes,
             at + i * Entry::SIZE,
@@ -146,7 +143,6 @@ fn records_sound(
         ) {
             return false;
         }
-        i += 1;
     }
     true
 }
@@ -166,12 +162,10 @@ fn absent(bytes: &[u8], key: usize, at: usize, n: usize) -> bool
     requires { (key + 64 ≤ length bytes.now) × ((at + n * 143 ≤ length bytes.now) × (n ≤ 16)) }
     ensures { result ≡ not (any (is_of (part bytes.now key 64)) (entries_at bytes.now at n)) }
 {
-    let mut i = 0;
-    while i < n {
+    for i in 0..n {
         if same_key(bytes, key, at + i * Entry::SIZE) {
             return false;
         }
-        i += 1;
     }
     true
 }
@@ -180,16 +174,11 @@ fn keys_apart(bytes: &[u8], at: usize, n: usize, other: usize, m: usize) -> bool
     requires { ((at + n * 143 ≤ length bytes.now) × (n ≤ 16)) × ((other + m * 143 ≤ length bytes.now) × (m ≤ 16)) }
     ensures { result ≡ keys_apart bytes.now at n other m }
 {
-    let mut i = 0;
-    while i < n {
+    for i in 0..n {
         let key = at + i * Entry::SIZE;
-        if !both(
-            absent(bytes, key, key + Entry::SIZE, n - i - 1),
-            absent(bytes, key, other, m),
-        ) {
+        if !(absent(bytes, key, key + Entry::SIZE, n - i - 1) && absent(bytes, key, other, m)) {
             return false;
         }
-        i += 1;
     }
     true
 }

@@ -18,16 +18,10 @@ use Rattle.bucket.specs.declared.EntryList.{EntryList}
 use Rattle.bucket.specs.declared.Bucket.{Bucket}
 use Rattle.bucket.specs.Steps.{listed, Holds, contents, Shows}
 use Rattle.bucket.proofs.Laws.{holds_listed, shown, push_holds}
-use Rattle.bucket_sweep.specs.Steps.{stays, promote_one, promote_all}
+use Rattle.bucket_sweep.specs.Steps.{promote_one, promote_all}
 use Rattle.bucket_range.proofs.Laws.{room_for_one}
 
 -- ---- what stays
-
-pub stays_waiting : (now : ℕ) (e : Entry) (waiting : Bool) {r : Bool} → waiting ≡ true → r ≡ stays_replacement now e → r ≡ stays waiting now e
-stays_waiting now e waiting t is = rw t is
-
-pub stays_else : (now : ℕ) (e : Entry) (waiting : Bool) {r : Bool} → waiting ≡ false → r ≡ stays_entry now e → r ≡ stays waiting now e
-stays_else now e waiting t is = rw t is
 
 -- the first n of `kept` are those of the first i of `es` that pass the test
 pub record Kept (f : Entry → Bool) (es kept : List Entry) (i n : ℕ) : Type 0 where

@@ -15,13 +15,10 @@ use node::MonotonicMillis;
 fn stays(e: Entry, waiting: bool, clock: MonotonicMillis) -> bool
     ensures { result ≡ stays waiting clock.0 e }
 {
-    let ping = e.ping;
-    let proof = e.proof;
-    let alive = !bucket_times::is_overdue(ping, clock);
-    if waiting {
-        return bucket_entry::both(alive, !bucket_times::proof_expired(proof, clock));
+    if waiting && bucket_times::proof_expired(e.proof, clock) {
+        return false;
     }
-    alive
+    !bucket_times::is_overdue(e.ping, clock)
 }
 
 // The entries of a list that stay in the sweep's removals, in order.
@@ -29,15 +26,12 @@ fn kept(l: EntryList, waiting: bool, clock: MonotonicMillis) -> EntryList
     requires { l.len ≤ 16 }
     ensures { Holds result (select (stays waiting clock.0) (listed l)) }
 {
-    let len = l.len;
     let mut kept = l;
     let mut n = 0;
-    let mut i = 0;
-    while i < len {
+    for i in 0..l.len {
         let e = l.items[i];
         kept.items[n] = e;
-        n += bucket_range::count(stays(e, waiting, clock));
-        i += 1;
+        n += usize::from(stays(e, waiting, clock));
     }
     kept.len = n;
     kept
@@ -48,12 +42,7 @@ fn is_promoted(l: EntryList, e: Entry) -> bool
     requires { l.len ≤ 16 }
     ensures { result ≡ is_promoted (listed l) e }
 {
-    let proof = e.proof;
-    let at = e.endpoint;
-    bucket_entry::both(
-        bucket_times::is_proved(proof),
-        bucket_range::may_take(l, at),
-    )
+    bucket_times::is_proved(e.proof) && bucket_range::may_take(l, e.endpoint)
 }
 
 // Of the line, each in its turn, those that are promoted take an entry at the tail, and the others stay. The lists are changed in place: a
@@ -62,12 +51,10 @@ fn promote_all(taken: EntryList, line: EntryList) -> Bucket
     requires { (taken.len ≤ 16) × (line.len ≤ 16) }
     ensures { Shows result (promote_all (record { entries = listed taken; replacements = [] }) (listed line)) }
 {
-    let len = line.len;
     let mut entries = taken;
     let mut replacements = line;
     replacements.len = 0;
-    let mut i = 0;
-    while i < len {
+    for i in 0..line.len {
         let e = line.items[i];
         if is_promoted(entries, e) {
             let tail = entries.len;
@@ -78,7 +65,6 @@ fn promote_all(taken: EntryList, line: EntryList) -> Bucket
             replacements.items[end] = e;
             replacements.len = end + 1;
         }
-        i += 1;
     }
     Bucket {
         entries,
@@ -92,9 +78,7 @@ pub fn sweep(b: Bucket, clock: MonotonicMillis) -> Bucket
     requires { InBounds b }
     ensures { Shows result (on_sweep clock.0 (contents b)) }
 {
-    let entries = b.entries;
-    let replacements = b.replacements;
-    let entries = kept(entries, false, clock);
-    let line = kept(replacements, true, clock);
+    let entries = kept(b.entries, false, clock);
+    let line = kept(b.replacements, true, clock);
     promote_all(entries, line)
 }

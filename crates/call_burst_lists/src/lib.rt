@@ -11,14 +11,11 @@ fn adds_up(lengths: &[usize], size: usize) -> bool
     ensures { result ≡ eqb (sum lengths.now) size }
 {
     let mut left = size;
-    let mut i = 0;
-    while i < lengths.len() {
-        let len = lengths[i];
-        if left < len {
+    for len in lengths {
+        if left < *len {
             return false;
         }
-        left -= len;
-        i += 1;
+        left -= *len;
     }
     left == 0
 }

@@ -13,8 +13,8 @@ use Rattle.call_history.specs.Model as model
 use Rattle.call_model.specs.Calls.{env_of, unsound_for}
 use Rattle.call_model.specs.Reading.{reading}
 use Rattle.table.specs.declared.Touched.{Touched}
-use Rattle.call_touched.specs.declared.Placed.{Placed}
-use Rattle.call_touched.specs.declared.Placed.TheVariants.{NotPlaced, In}
+use Rattle.call_touched.specs.Placed.{Placed}
+use Rattle.call_touched.specs.Placed.{NotPlaced, In}
 use Rattle.call_touched.specs.declared.Reach.{Reach}
 use Rattle.call_touched.specs.declared.Reach.TheVariants.{Unsound, At}
 use Rattle.call_touched.specs.Steps.{key_tests, kept_place}

@@ -2,13 +2,15 @@
 #![tactic(auto)]
 
 ghost use Rattle.std.specs.Prelude.{◌≡◌, ◌≤◌, length};
+ghost use Rattle.numbers.specs.Numbers.{answer_number};
 ghost use Rattle.lists.specs.Lists.{first};
 ghost use Rattle.table_model.specs.Layout.{clock_of};
 ghost use Rattle.call_touched.specs.Steps.{HasHeader};
 ghost use Rattle.call_judge.specs.Steps.{judged_at, judged_on, datagram_tests, kept_slot, after_reading};
 
-use call_touched::{Placed, Reach};
+use call_touched::Reach;
 use node::{MonotonicMillis, UnixSeconds};
+use numbers::Refusal;
 use packet::{Packet, Parsed};
 use table::Touched;
 
@@ -21,26 +23,26 @@ pub enum Judged {
     Passed(usize, Packet),
 }
 
-// Answers 2 to 7, or 0, of a datagram.
+// Refuses a datagram with 2 to 7.
 fn datagram_number(
     table: &[u8],
     clock: MonotonicMillis,
     datagram: &[u8],
     touched: Touched,
     address: &[u8],
-) -> u8
+) -> Result<(), Refusal>
     requires { 512 ≤ length table.now }
-    ensures { result ≡ first (datagram_tests (clock_of table.now) clock.0 datagram.now touched address.now) }
+    ensures { answer_number result ≡ first (datagram_tests (clock_of table.now) clock.0 datagram.now touched address.now) }
 {
     let last = table::clock(table);
     if clock.0 < last.0 {
-        return numbers::CLOCK_BACK;
+        return Err(Refusal::ClockBack);
     }
     if !packet_envelope::is_sized(datagram) {
-        return numbers::WRONG_LENGTH;
+        return Err(Refusal::WrongLength);
     }
     if !packet_envelope::hash_matches(datagram) {
-        return numbers::WRONG_HASH;
+        return Err(Refusal::WrongHash);
     }
     call_touched::key_number(touched, address)
 }
@@ -50,8 +52,8 @@ fn kept_slot(touched: Touched, packet: Packet) -> Judged
     ensures { result ≡ kept_slot touched packet }
 {
     match call_touched::kept_place(touched) {
-        Placed::NotPlaced(n) => Judged::Refused(n),
-        Placed::In(slot) => Judged::Passed(slot, packet),
+        Ok(slot) => Judged::Passed(slot, packet),
+        Err(refusal) => Judged::Refused(refusal.number()),
     }
 }
 
@@ -77,11 +79,10 @@ fn judge_at(
     requires { 512 ≤ length table.now }
     ensures { result ≡ judged_at (clock_of table.now) clock.0 unix datagram.now touched address.now }
 {
-    let n = datagram_number(table, clock, datagram, touched, address);
-    if n != 0 {
-        return Judged::Refused(n);
+    match datagram_number(table, clock, datagram, touched, address) {
+        Ok(()) => after_reading(touched, packet_datagram::read(datagram, unix)),
+        Err(refusal) => Judged::Refused(refusal.number()),
     }
-    after_reading(touched, packet_datagram::read(datagram, unix))
 }
 
 // Answers 1 to 12 of a datagram whose signer's key leads to `reach`, or what the sender's bucket is to get.

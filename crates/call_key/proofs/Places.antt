@@ -12,8 +12,8 @@ use Rattle.table.specs.Steps.{touched_by}
 use Rattle.call_history.specs.Model.{is_own, is_kept, slot}
 use Rattle.call_model.specs.Calls.{env_of, unsound_for}
 use Rattle.call_model.specs.Reading.{reading}
-use Rattle.call_touched.specs.declared.Placed.{Placed}
-use Rattle.call_touched.specs.declared.Placed.TheVariants.{NotPlaced, In}
+use Rattle.call_touched.specs.Placed.{Placed}
+use Rattle.call_touched.specs.Placed.{NotPlaced, In}
 use Rattle.call_touched.specs.Steps.{SoundAt}
 use Rattle.call_touched.proofs.Touch.{leads, is-touched, sound-at}
 use Rattle.call_key.specs.Number.{key_number}

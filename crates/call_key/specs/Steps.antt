@@ -8,8 +8,8 @@ use Rattle.table.specs.declared.Touched.TheVariants.{WrongKey, Own, NotKept, Slo
 use Rattle.call_history.specs.Model.{slot}
 use Rattle.call_model.specs.Calls.{env_of}
 use Rattle.call_model.specs.Reading.{reading}
-use Rattle.call_touched.specs.declared.Placed.{Placed}
-use Rattle.call_touched.specs.declared.Placed.TheVariants.{NotPlaced, In}
+use Rattle.call_touched.specs.Placed.{Placed}
+use Rattle.call_touched.specs.Placed.{NotPlaced, In}
 use Rattle.call_touched.specs.Steps.{SoundAt}
 use Rattle.call_key.specs.declared.Held.{Held}
 use Rattle.call_key.specs.declared.Held.TheVariants as held

@@ -4,38 +4,40 @@
 
 ghost use Rattle.std.specs.Prelude.{◌≡◌, ◌+◌, ◌-◌};
 ghost use Rattle.table_model.specs.Layout.{count_of, bucket_at};
+ghost use Rattle.call_touched.specs.Placed.{placed};
 ghost use Rattle.call_touched.specs.Steps.{SoundAt};
 ghost use Rattle.call_key.specs.Head.{no_head, head_entry, first_of, head_on};
 ghost use Rattle.call_key.specs.Held.{not_found, found_in, found_on};
 ghost use Rattle.call_key.specs.Steps.{place_of, key_place, SoundPlace, FewBefore, held_at};
 
 use bucket::{Bucket, Position};
-use call_touched::{Placed, Reach};
+use call_touched::Reach;
 use entry::{Entry, PingState};
 use node::Node;
+use numbers::Refusal;
 use table::Touched;
 
 // ---- where a key leads
 
-// Answers 5, 7 and 12, or the slot of the key's bucket.
-fn place_of(touched: Touched) -> Placed
-    ensures { result ≡ place_of touched }
+// The slot of the key's bucket, or refuses with 5, 7 or 12.
+fn place_of(touched: Touched) -> Result<usize, Refusal>
+    ensures { placed result ≡ place_of touched }
 {
     match touched {
-        Touched::WrongKey => Placed::NotPlaced(numbers::WRONG_KEY),
-        Touched::Own => Placed::NotPlaced(numbers::OWN_KEY),
-        Touched::NotKept => Placed::NotPlaced(numbers::NOT_KEPT),
-        Touched::Slot(slot) => Placed::In(slot),
+        Touched::WrongKey => Err(Refusal::WrongKey),
+        Touched::Own => Err(Refusal::OwnKey),
+        Touched::NotKept => Err(Refusal::NotKept),
+        Touched::Slot(slot) => Ok(slot),
     }
 }
 
-// Answers 1, 5, 7 and 12, or the slot of the key's bucket, which is sound.
-fn key_place(table: &[u8], key: &[u8]) -> Placed
-    ensures { (result ≡ key_place table.now key.now) × SoundPlace table.now result }
+// The slot of the key's bucket, which is sound, or refuses with 1, 5, 7 or 12.
+fn key_place(table: &[u8], key: &[u8]) -> Result<usize, Refusal>
+    ensures { (placed result ≡ key_place table.now key.now) × SoundPlace table.now (placed result) }
 {
     let reached = call_touched::reached_by(table, key);
     match reached {
-        Reach::Unsound => Placed::NotPlaced(numbers::UNSOUND),
+        Reach::Unsound => Err(Refusal::Unsound),
         Reach::At(touched) => place_of(touched),
     }
 }
@@ -86,16 +88,16 @@ fn first_in(table: &[u8], slot: usize) -> HeadNode
 pub fn head(table: &[u8], key: &[u8]) -> HeadNode
     ensures { result ≡ head_on table.now key.now }
 {
-    let place = key_place(table, key);
-    match place {
-        Placed::NotPlaced(number) => no_head(number),
-        Placed::In(slot) => first_in(table, slot),
+    match key_place(table, key) {
+        Ok(slot) => first_in(table, slot),
+        Err(refusal) => no_head(refusal.number()),
     }
 }
 
 // ---- whether its node is held
 
 // Where a node is held, with the logarithmic distance of its bucket and its place there, counted from 1.
+// kept: a match has three arms either way, and an Option nests two of them.
 #[derive(Clone, Copy)]
 pub enum Held {
     Nowhere,
@@ -163,9 +165,8 @@ fn found_in(table: &[u8], slot: usize, key: &[u8]) -> Found
 pub fn find(table: &[u8], key: &[u8]) -> Found
     ensures { result ≡ found_on table.now key.now }
 {
-    let place = key_place(table, key);
-    match place {
-        Placed::NotPlaced(number) => not_found(number),
-        Placed::In(slot) => found_in(table, slot, key),
+    match key_place(table, key) {
+        Ok(slot) => found_in(table, slot, key),
+        Err(refusal) => not_found(refusal.number()),
     }
 }

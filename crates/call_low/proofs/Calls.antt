@@ -5,8 +5,8 @@ use mathlib.Core.Bool.{Bool, true, false, cond}
 use mathlib.Core.List.{List, [], ◌∷◌}
 use Rattle.octets.specs.Octets.{Bytes}
 use Rattle.lists.specs.Lists.{All}
-use Rattle.clock32.specs.declared.Widened.{Widened}
-use Rattle.clock32.specs.declared.Widened.TheVariants.{At, Back}
+use Rattle.std.specs.Prelude.{Option, Some, None}
+use Rattle.node.specs.declared.MonotonicMillis.{MonotonicMillis}
 use Rattle.clock32.specs.Widened.{widened}
 use Rattle.clock32.proofs.Laws.{widens}
 use Rattle.table_model.specs.Layout.{clock_of}
@@ -26,9 +26,9 @@ at_is (sweep now) t h is = h
 at_is (closest target room) t h is = is
 at_is (unclocked c) t h is = is
 
-clocked_is : (clock r : ℕ) (w : Widened) → widened clock r ≡ w → (c : Call) → IsCall c → IsCall (clocked w c)
-clocked_is clock r (At t) e c is = at_is c t.0 ((widens clock).rises r t e).1 is
-clocked_is clock r Back e c is = is
+clocked_is : (clock r : ℕ) (w : Option MonotonicMillis) → widened clock r ≡ w → (c : Call) → IsCall c → IsCall (clocked w c)
+clocked_is clock r (Some t) e c is = at_is c t.0 ((widens clock).rises r t e).1 is
+clocked_is clock r None e c is = is
 
 pub got_is : (clock : ℕ) (c : Call) → IsCall c → IsCall (got clock c)
 unfolding got

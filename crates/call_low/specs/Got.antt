@@ -1,8 +1,8 @@
 -- A call with a reading of 32 bits, as it got its clock (document 02, C-20). It is written as a `Call` whose milliseconds are the reading.
-use Rattle.std.specs.Prelude.{ℕ, Bool, true, false, cond, List, [], ◌∷◌}
+use Rattle.std.specs.Prelude.{ℕ, Bool, true, false, cond, List, [], ◌∷◌, Option, Some, None, Result, Ok, Err}
+use Rattle.std.specs.Option.{ok_or}
 use Rattle.octets.specs.Octets.{Bytes}
-use Rattle.clock32.specs.declared.Widened.{Widened}
-use Rattle.clock32.specs.declared.Widened.TheVariants.{At, Back}
+use Rattle.node.specs.declared.MonotonicMillis.{MonotonicMillis}
 use Rattle.clock32.specs.Widened.{widened}
 use Rattle.table_model.specs.Layout.{clock_of, header_sound}
 use Rattle.call_history.specs.Model.{Call, datagram, ping_sent, sweep, closest, unclocked}
@@ -12,8 +12,8 @@ use Rattle.call_model.specs.Reading.{reading}
 use Rattle.call_answer.specs.declared.Received.{Received}
 use Rattle.call_answer.specs.Answer.{refusal}
 use Rattle.call_datagram.specs.Received.{received}
-use Rattle.call_low.specs.declared.FullClock.{FullClock}
-use Rattle.call_low.specs.declared.FullClock.TheVariants as full
+use Rattle.call_low.specs.declared.ClockError.{ClockError}
+use Rattle.call_low.specs.declared.ClockError.TheVariants.{Unsound, Back}
 
 -- "All calls with a clock get it"
 abbrev pub has_clock : Call → Bool
@@ -32,30 +32,22 @@ at_millis (closest target room) t = closest target room
 at_millis (unclocked c) t = unclocked c
 
 -- at the full clock; or refused: "Otherwise the reading counts as going back and answers 2"
-abbrev pub clocked : Widened → Call → Call
-clocked (At t) c = at_millis c t.0
-clocked Back c = unclocked c
+abbrev pub clocked : Option MonotonicMillis → Call → Call
+clocked (Some t) c = at_millis c t.0
+clocked None c = unclocked c
 
 -- "a front that takes a 32-bit reading and the table's clock and gives the full clock"
 unfoldable pub got : ℕ → Call → Call
 got clock c = cond (has_clock c) (clocked (widened clock (clock_reading 0 c)) c) c
 
 -- the full clock of a reading on a table's bytes, as `full_clock` tells it: 1 where the header isn't sound, else 2 or the clock
-abbrev pub of_widened : Widened → FullClock
-of_widened (At t) = full.At t
-of_widened Back = full.Back
+unfoldable pub full_clock : Bytes → ℕ → Result MonotonicMillis ClockError
+full_clock s r = cond (header_sound s) (ok_or (widened (clock_of s) r) Back) (Err Unsound)
 
-abbrev pub pick : Bool → FullClock → FullClock → FullClock
-pick true a b = a
-pick false a b = b
-
-unfoldable pub full_clock : Bytes → ℕ → FullClock
-full_clock s r = pick (header_sound s) (of_widened (widened (clock_of s) r)) full.Unsound
-
-abbrev pub full_clock_number : FullClock → ℕ
-full_clock_number full.Unsound = 1
-full_clock_number full.Back = 2
-full_clock_number (full.At t) = 0
+abbrev pub full_clock_number : Result MonotonicMillis ClockError → ℕ
+full_clock_number (Err Unsound) = 1
+full_clock_number (Err Back) = 2
+full_clock_number (Ok t) = 0
 
 -- a call's answer number on a table's bytes, and the bytes that it leaves
 abbrev pub answer_low : Bytes → Call → ℕ
@@ -70,9 +62,9 @@ got_all s [] = []
 got_all s (c ∷ cs) = got (clock_of s) c ∷ got_all (bytes_low s c) cs
 
 -- the answer to a datagram as it got its clock
-abbrev pub received_by : Widened → Bytes → ℕ → ℕ → Bytes → ℕ → Bytes → Bytes → Received
-received_by (At t) s r unix address udp key g = received s t.0 unix address udp key g
-received_by Back s r unix address udp key g = refusal (answer_on reading s (unclocked (datagram r unix address udp key g)))
+abbrev pub received_by : Option MonotonicMillis → Bytes → ℕ → ℕ → Bytes → ℕ → Bytes → Bytes → Received
+received_by (Some t) s r unix address udp key g = received s t.0 unix address udp key g
+received_by None s r unix address udp key g = refusal (answer_on reading s (unclocked (datagram r unix address udp key g)))
 
 unfoldable pub received_low : Bytes → ℕ → ℕ → Bytes → ℕ → Bytes → Bytes → Received
 received_low s r unix address udp key g = received_by (widened (clock_of s) r) s r unix address udp key g

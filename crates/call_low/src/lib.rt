@@ -3,6 +3,7 @@
 #![tactic(auto)]
 
 ghost use Rattle.std.specs.Prelude.{◌≡◌, not};
+ghost use Rattle.numbers.specs.Numbers.{number_of, answer_number};
 ghost use Rattle.table_model.specs.Layout.{clock_of};
 ghost use Rattle.table_model.specs.Sound.{table_sound};
 ghost use Rattle.call_history.specs.Model as model;
@@ -13,62 +14,70 @@ ghost use Rattle.call_low.specs.Steps.{low_clock, back_number};
 
 use call_answer::{Outcome, Received};
 use call_touched::Reach;
-use clock32::{LowMillis, Widened};
+use clock32::LowMillis;
 use node::{MonotonicMillis, UnixSeconds};
+use numbers::Refusal;
+use std::fmt;
 
-// What a reading gives on a table.
-#[derive(Clone, Copy)]
-pub enum FullClock {
+// Why a reading gives no clock on a table.
+#[derive(Clone, Copy, Debug, PartialEq, Eq)]
+pub enum ClockError {
     // Answer 1: the table has no clock.
     Unsound,
     // The reading counts as going back: answer 2, or 1 of what the call touches.
     Back,
-    At(MonotonicMillis),
+}
+
+impl fmt::Display for ClockError {
+    fn fmt<W: fmt::Write>(&self, f: &mut fmt::Formatter<W>) -> fmt::Result {
+        match self {
+            ClockError::Unsound => write!(f, "the table has no clock"),
+            ClockError::Back => write!(f, "the reading counts as going back"),
+        }
+    }
 }
 
 // The full clock by the clock that stands in the table, which is the last accepted call's; the rest of the header isn't looked at.
-fn low_clock(table: &[u8], reading: LowMillis) -> FullClock
+fn low_clock(table: &[u8], reading: LowMillis) -> Result<MonotonicMillis, ClockError>
     ensures { result ≡ low_clock table.now reading.0 }
 {
     if table.len() < table::HEADER_SIZE {
-        return FullClock::Unsound;
+        return Err(ClockError::Unsound);
     }
     let last = table::clock(table);
-    match clock32::widen(reading, last) {
-        Widened::At(clock) => FullClock::At(clock),
-        Widened::Back => FullClock::Back,
-    }
+    clock32::widen(reading, last).ok_or(ClockError::Back)
 }
 
 // The full clock of a reading.
-pub fn full_clock(table: &[u8], reading: LowMillis) -> FullClock
+pub fn full_clock(table: &[u8], reading: LowMillis) -> Result<MonotonicMillis, ClockError>
     ensures { result ≡ full_clock table.now reading.0 }
 {
     if !table::header_sound(table) {
-        return FullClock::Unsound;
+        return Err(ClockError::Unsound);
     }
     low_clock(table, reading)
 }
 
-// The answer number of a call with this key whose reading went back.
-pub fn back_number(table: &[u8], key: &[u8]) -> u8
-    ensures { result ≡ back_number (unsound_for reading table.now key.now) }
+// Why a call with this key is refused whose reading went back.
+pub fn back_number(table: &[u8], key: &[u8]) -> Refusal
+    ensures { number_of result ≡ back_number (unsound_for reading table.now key.now) }
 {
     let reached = call_touched::reached_by(table, key);
     match reached {
-        Reach::Unsound => numbers::UNSOUND,
-        Reach::At(_) => numbers::CLOCK_BACK,
+        Reach::Unsound => Refusal::Unsound,
+        Reach::At(_) => Refusal::ClockBack,
     }
 }
 
 // The same of a sweep, which touches all.
-pub fn back_number_of_all(table: &[u8]) -> u8
-    ensures { result ≡ back_number (not (table_sound table.now)) }
+pub fn back_number_of_all(table: &[u8]) -> Refusal
+    ensures { number_of result ≡ back_number (not (table_sound table.now)) }
 {
     if table_sound::sound(table) {
-        return numbers::CLOCK_BACK;
+        Refusal::ClockBack
+    } else {
+        Refusal::Unsound
     }
-    numbers::UNSOUND
 }
 
 // ---- the calls. What a call touches is tested once: 1 comes from the 64-bit call, or from `back_number`.
@@ -87,15 +96,18 @@ pub fn datagram_low_on(
     ensures table_after { table.new ≡ bytes_low table.old (model.datagram reading.0 unix.0 address.now port signer.now datagram.now) }
 {
     match low_clock(table, reading) {
-        FullClock::Unsound => call_answer::plain(Outcome::Refused(numbers::UNSOUND)),
-        FullClock::Back => call_answer::plain(Outcome::Refused(back_number(table, signer))),
-        FullClock::At(clock) => call_datagram::datagram_on(
+        Err(ClockError::Unsound) => call_answer::plain(Outcome::Refused(Refusal::Unsound.number())),
+        Err(ClockError::Back) => {
+            let refusal = back_number(table, signer);
+            call_answer::plain(Outcome::Refused(refusal.number()))
+        }
+        Ok(clock) => call_datagram::datagram_on(
             table, clock, unix, address, port, signer, datagram,
         ),
     }
 }
 
-// A ping with this hash went out to a node, at this reading. The answer number.
+// A ping with this hash went out to a node, at this reading.
 pub fn ping_sent_low_on(
     table: &mut [u8],
     reading: LowMillis,
@@ -104,27 +116,25 @@ pub fn ping_sent_low_on(
     udp: u16,
     tcp: u16,
     hash: &[u8],
-) -> u8
-    ensures value { result ≡ answer_low table.old (model.ping_sent reading.0 key.now address.now udp tcp hash.now) }
+) -> Result<(), Refusal>
+    ensures value { answer_number result ≡ answer_low table.old (model.ping_sent reading.0 key.now address.now udp tcp hash.now) }
     ensures table_after { table.new ≡ bytes_low table.old (model.ping_sent reading.0 key.now address.now udp tcp hash.now) }
 {
     match low_clock(table, reading) {
-        FullClock::Unsound => numbers::UNSOUND,
-        FullClock::Back => back_number(table, key),
-        FullClock::At(clock) => call_ping_sent::ping_sent_on(
-            table, clock, key, address, udp, tcp, hash,
-        ),
+        Err(ClockError::Unsound) => Err(Refusal::Unsound),
+        Err(ClockError::Back) => Err(back_number(table, key)),
+        Ok(clock) => call_ping_sent::ping_sent_on(table, clock, key, address, udp, tcp, hash),
     }
 }
 
-// A sweep at this reading. The answer number.
-pub fn sweep_low_on(table: &mut [u8], reading: LowMillis) -> u8
-    ensures value { result ≡ answer_low table.old (model.sweep reading.0) }
+// A sweep at this reading.
+pub fn sweep_low_on(table: &mut [u8], reading: LowMillis) -> Result<(), Refusal>
+    ensures value { answer_number result ≡ answer_low table.old (model.sweep reading.0) }
     ensures table_after { table.new ≡ bytes_low table.old (model.sweep reading.0) }
 {
     match low_clock(table, reading) {
-        FullClock::Unsound => numbers::UNSOUND,
-        FullClock::Back => back_number_of_all(table),
-        FullClock::At(clock) => call_sweep::sweep_on(table, clock),
+        Err(ClockError::Unsound) => Err(Refusal::Unsound),
+        Err(ClockError::Back) => Err(back_number_of_all(table)),
+        Ok(clock) => call_sweep::sweep_on(table, clock),
     }
 }

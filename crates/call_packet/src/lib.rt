@@ -2,6 +2,7 @@
 #![tactic(auto)]
 
 ghost use Rattle.std.specs.Prelude.{◌≡◌, [], ◌∷◌};
+ghost use Rattle.numbers.specs.Numbers.{answer_number};
 ghost use Rattle.lists.specs.Lists.{first};
 ghost use Rattle.call_packet.specs.Steps.{Replies, RepliesTo};
 ghost use Rattle.octets.specs.Octets.{Bytes};
@@ -17,6 +18,7 @@ use bucket::Bucket;
 use bucket_lookup::Lookup;
 use call_answer::{Outcome, Received};
 use node::MonotonicMillis;
+use numbers::Refusal;
 use packet::{Packet, Ping, Pong};
 
 // What a packet comes to at its sender's bucket.
@@ -41,17 +43,23 @@ fn refused(number: u8, b: Bucket) -> Reply
     }
 }
 
-// Answers 14 and 15, or 0: the pong must be awaited and in time.
-fn pong_number(l: Lookup, hash: &[u8], clock: MonotonicMillis, address: &[u8], port: u16) -> u8
-    ensures { (key : Bytes) (m : Contents) → LooksUp key m l → result ≡ first ((not_awaited hash.now address.now port key m, 14) ∷ (is_late clock.0 key m, 15) ∷ []) }
+// Refuses with 14 and 15: the pong must be awaited and in time.
+fn pong_number(
+    l: Lookup,
+    hash: &[u8],
+    clock: MonotonicMillis,
+    address: &[u8],
+    port: u16,
+) -> Result<(), Refusal>
+    ensures { (key : Bytes) (m : Contents) → LooksUp key m l → answer_number result ≡ first ((not_awaited hash.now address.now port key m, 14) ∷ (is_late clock.0 key m, 15) ∷ []) }
 {
     if l.not_awaited(hash, address, port) {
-        return numbers::NOT_AWAITED;
+        return Err(Refusal::NotAwaited);
     }
     if l.is_late(clock) {
-        return numbers::LATE;
+        return Err(Refusal::Late);
     }
-    numbers::DONE
+    Ok(())
 }
 
 // A ping: a verified sender is heard.
@@ -98,22 +106,18 @@ fn on_pong(
     ensures { Replies ((not_awaited (bytes_of datagram.now p.ping_hash) address.now port signer.now (contents b), 14) ∷ (is_late clock.0 signer.now (contents b), 15) ∷ []) (on_pong clock.0 signer.now (contents b)) (accepted_pong signer.now p (contents b)) result }
 {
     let hash = p.ping_hash;
-    let n = pong_number(
-        l,
-        packet_span::bytes_of(datagram, hash),
-        clock,
-        address,
-        port,
-    );
-    if n != 0 {
-        return refused(n, b);
-    }
-    let after = bucket_rules::pong(b, l, signer, clock);
-    let answer = call_answer::accepted_pong(b, l, p);
-    Reply {
-        number: numbers::DONE,
-        after,
-        answer,
+    let hash = packet_span::bytes_of(datagram, hash);
+    match pong_number(l, hash, clock, address, port) {
+        Ok(()) => {
+            let after = bucket_rules::pong(b, l, signer, clock);
+            let answer = call_answer::accepted_pong(b, l, p);
+            Reply {
+                number: numbers::DONE,
+                after,
+                answer,
+            }
+        }
+        Err(refusal) => refused(refusal.number(), b),
     }
 }
 

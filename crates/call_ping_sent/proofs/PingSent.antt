@@ -21,8 +21,8 @@ use Rattle.table.specs.Steps.{touched_by}
 use Rattle.call_touched.specs.declared.Reach.{Reach}
 use Rattle.call_touched.specs.Steps.{reached, SoundAt}
 use Rattle.call_touched.proofs.Touch.{is-touched, sound-at}
-use Rattle.call_touched.specs.declared.Placed.{Placed}
-use Rattle.call_touched.specs.declared.Placed.TheVariants.{NotPlaced, In}
+use Rattle.call_touched.specs.Placed.{Placed}
+use Rattle.call_touched.specs.Placed.{NotPlaced, In}
 use Rattle.call_ping_sent.specs.Steps.{placed_by, placed_at, placed_on, ping_sent_front, placed, note_number, after_note}
 use Rattle.call_ping_sent.proofs.Placing.{same_placed}
 

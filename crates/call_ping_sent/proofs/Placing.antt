@@ -6,7 +6,7 @@ use Prim.Native.Nat.{ℕ}
 use Rattle.lists.specs.Lists.{first}
 use Rattle.call_touched.specs.Steps.{is_wrong_key, is_own_key}
 use Rattle.call_touched.proofs.Touch.{leads}
-use Rattle.call_touched.specs.declared.Placed.TheVariants.{In}
+use Rattle.call_touched.specs.Placed.{In}
 use Rattle.call_touched.specs.Steps.{kept_place}
 use Rattle.call_ping_sent.specs.Steps.{placed_by}
 

@@ -12,8 +12,8 @@ use Rattle.table.specs.declared.Touched.{Touched}
 use Rattle.call_touched.specs.Steps.{key_tests, kept_place, with_bucket}
 use Rattle.call_touched.specs.declared.Reach.{Reach}
 use Rattle.call_touched.specs.declared.Reach.TheVariants.{Unsound, At}
-use Rattle.call_touched.specs.declared.Placed.{Placed}
-use Rattle.call_touched.specs.declared.Placed.TheVariants.{NotPlaced, In}
+use Rattle.call_touched.specs.Placed.{Placed}
+use Rattle.call_touched.specs.Placed.{NotPlaced, In}
 
 -- 2 to 7
 abbrev pub ping_sent_tests : ℕ → ℕ → Bytes → Touched → Bytes → List (Bool × ℕ)

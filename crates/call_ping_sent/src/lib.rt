@@ -2,6 +2,7 @@
 #![tactic(auto)]
 
 ghost use Rattle.std.specs.Prelude.{◌≡◌, true, ◌≤◌, length};
+ghost use Rattle.numbers.specs.Numbers.{answer_number};
 ghost use Rattle.octets.specs.Octets.{Bytes};
 ghost use Rattle.lists.specs.Lists.{first};
 ghost use Rattle.table_model.specs.Layout.{clock_of};
@@ -11,85 +12,90 @@ ghost use Rattle.call_history.specs.Model as model;
 ghost use Rattle.call_model.specs.Calls.{answer_on, bytes_after};
 ghost use Rattle.call_model.specs.IfAny.{sound_if_any};
 ghost use Rattle.call_model.specs.Reading.{reading};
+ghost use Rattle.call_touched.specs.Placed.{placed};
 ghost use Rattle.call_touched.specs.Steps.{reached, HasHeader, SoundAt};
 ghost use Rattle.call_history.specs.Model.{held_refusals};
 ghost use Rattle.call_ping_sent.specs.Steps.{placed_at, placed_on, ping_sent_tests, note_number, after_note};
 
 use bucket::Bucket;
 use bucket_lookup::Lookup;
-use call_touched::{Placed, Reach};
+use call_touched::Reach;
 use node::MonotonicMillis;
+use numbers::Refusal;
 use table::Touched;
 
-// Answers 2 to 7, or 0, of a ping that was sent.
+// Refuses a ping that was sent with 2 to 7.
 fn ping_number(
     table: &[u8],
     clock: MonotonicMillis,
     hash: &[u8],
     touched: Touched,
     address: &[u8],
-) -> u8
+) -> Result<(), Refusal>
     requires { 512 ≤ length table.now }
-    ensures { result ≡ first (ping_sent_tests (clock_of table.now) clock.0 hash.now touched address.now) }
+    ensures { answer_number result ≡ first (ping_sent_tests (clock_of table.now) clock.0 hash.now touched address.now) }
 {
     let last = table::clock(table);
     if clock.0 < last.0 {
-        return numbers::CLOCK_BACK;
+        return Err(Refusal::ClockBack);
     }
     if hash.len() != 32 {
-        return numbers::WRONG_HASH;
+        return Err(Refusal::WrongHash);
     }
     call_touched::key_number(touched, address)
 }
 
-// Answers 2 to 12 of a ping that was sent, or the slot of the node's bucket.
+// The slot of the node's bucket, or refuses a ping that was sent with 2 to 12.
 fn place_at(
     table: &[u8],
     clock: MonotonicMillis,
     hash: &[u8],
     touched: Touched,
     address: &[u8],
-) -> Placed
+) -> Result<usize, Refusal>
     requires { 512 ≤ length table.now }
-    ensures { result ≡ placed_at (clock_of table.now) clock.0 hash.now touched address.now }
+    ensures { placed result ≡ placed_at (clock_of table.now) clock.0 hash.now touched address.now }
 {
-    let n = ping_number(table, clock, hash, touched, address);
-    if n != 0 {
-        return Placed::NotPlaced(n);
-    }
+    ping_number(table, clock, hash, touched, address)?;
     call_touched::kept_place(touched)
 }
 
-// Answers 1 to 12 of a ping that was sent to the node whose key leads to `reach`, or the slot of its bucket.
-fn place(table: &[u8], reach: Reach, clock: MonotonicMillis, address: &[u8], hash: &[u8]) -> Placed
+// The slot of the bucket of the node whose key leads to `reach`, or refuses a ping that was sent to it with 1 to 12.
+fn place(
+    table: &[u8],
+    reach: Reach,
+    clock: MonotonicMillis,
+    address: &[u8],
+    hash: &[u8],
+) -> Result<usize, Refusal>
     requires { HasHeader table.now reach }
-    ensures { result ≡ placed_on (clock_of table.now) clock.0 hash.now reach address.now }
+    ensures { placed result ≡ placed_on (clock_of table.now) clock.0 hash.now reach address.now }
 {
     match reach {
-        Reach::Unsound => Placed::NotPlaced(numbers::UNSOUND),
+        Reach::Unsound => Err(Refusal::Unsound),
         Reach::At(touched) => place_at(table, clock, hash, touched, address),
     }
 }
 
-// Answers 16 to 18, or 0, of a ping that was sent to the node.
-fn ping_sent_number(b: Bucket, l: Lookup, address: &[u8], udp: u16) -> u8
+// Refuses a ping that was sent to the node with 16 to 18.
+fn ping_sent_number(b: Bucket, l: Lookup, address: &[u8], udp: u16) -> Result<(), Refusal>
     requires { InBounds b }
-    ensures { (key : Bytes) → LooksUp key (contents b) l → result ≡ first (held_refusals address.now udp key (contents b)) }
+    ensures { (key : Bytes) → LooksUp key (contents b) l → answer_number result ≡ first (held_refusals address.now udp key (contents b)) }
 {
     if l.held_elsewhere(address, udp) {
-        return numbers::HELD_ELSEWHERE;
+        return Err(Refusal::HeldElsewhere);
     }
     if l.ping_out() {
-        return numbers::PING_OUT;
+        return Err(Refusal::PingOut);
     }
     let replacements = b.replacements;
     if l.no_room(replacements.len) {
-        return numbers::LINE_FULL;
+        return Err(Refusal::LineFull);
     }
-    numbers::DONE
+    Ok(())
 }
 
-// A ping that was sent is noted in the bucket in its node's slot: answers 16 to 18, or 0 and the bucket and the clock are written.
+// A ping that was sent is noted in the bucket in its node's slot, and the bucket and the clock are written, unless it is refused with 16 to 18.
 fn note(
     table: &mut [u8],
     slot: usize,
@@ -99,20 +105,17 @@ fn note(
     udp: u16,
     tcp: u16,
     hash: &[u8],
-) -> u8
+) -> Result<(), Refusal>
     requires { SoundAt table.old slot × ((length key.now ≡ 64) × ((length address.now ≤ 16) × (length hash.now ≡ 32))) }
-    ensures value { result ≡ note_number table.old slot address.now udp key.now }
+    ensures value { answer_number result ≡ note_number table.old slot address.now udp key.now }
     ensures table_after { table.new ≡ after_note table.old slot clock.0 key.now address.now udp tcp hash.now }
 {
     let b = call_touched::bucket_in(table, slot);
     let l = bucket_lookup::look_up(b, key);
-    let refused = ping_sent_number(b, l, address, udp);
-    if refused != 0 {
-        return refused;
-    }
+    ping_sent_number(b, l, address, udp)?;
     let pinged = bucket_rules::ping_sent(b, l, key, address, udp, tcp, hash, clock);
     call_touched::put(table, slot, pinged, clock);
-    numbers::DONE
+    Ok(())
 }
 
 // A ping went out to the node whose key leads to `reach`.
@@ -125,18 +128,16 @@ fn ping_sent_at(
     udp: u16,
     tcp: u16,
     hash: &[u8],
-) -> u8
+) -> Result<(), Refusal>
     requires { reach ≡ reached table.old key.now }
-    ensures value { result ≡ answer_on reading table.old (model.ping_sent clock.0 key.now address.now udp tcp hash.now) }
+    ensures value { answer_number result ≡ answer_on reading table.old (model.ping_sent clock.0 key.now address.now udp tcp hash.now) }
     ensures table_after { table.new ≡ bytes_after reading table.old (model.ping_sent clock.0 key.now address.now udp tcp hash.now) }
 {
-    match place(table, reach, clock, address, hash) {
-        Placed::NotPlaced(n) => n,
-        Placed::In(slot) => note(table, slot, clock, key, address, udp, tcp, hash),
-    }
+    let slot = place(table, reach, clock, address, hash)?;
+    note(table, slot, clock, key, address, udp, tcp, hash)
 }
 
-// A ping with this hash went out to a node. The answer number.
+// A ping with this hash went out to a node.
 pub fn ping_sent_on(
     table: &mut [u8],
     clock: MonotonicMillis,
@@ -145,8 +146,8 @@ pub fn ping_sent_on(
     udp: u16,
     tcp: u16,
     hash: &[u8],
-) -> u8
-    ensures value { result ≡ answer_on reading table.old (model.ping_sent clock.0 key.now address.now udp tcp hash.now) }
+) -> Result<(), Refusal>
+    ensures value { answer_number result ≡ answer_on reading table.old (model.ping_sent clock.0 key.now address.now udp tcp hash.now) }
     ensures table_after { table.new ≡ bytes_after reading table.old (model.ping_sent clock.0 key.now address.now udp tcp hash.now) }
 {
     let reach = call_touched::reached_by(table, key);
@@ -162,9 +163,9 @@ pub fn ping_sent_on_sound(
     udp: u16,
     tcp: u16,
     hash: &[u8],
-) -> u8
+) -> Result<(), Refusal>
     requires { sound_if_any table.old ≡ true }
-    ensures value { result ≡ answer_on reading table.old (model.ping_sent clock.0 key.now address.now udp tcp hash.now) }
+    ensures value { answer_number result ≡ answer_on reading table.old (model.ping_sent clock.0 key.now address.now udp tcp hash.now) }
     ensures table_after { table.new ≡ bytes_after reading table.old (model.ping_sent clock.0 key.now address.now udp tcp hash.now) }
 {
     let reach = call_touched::reached_in(table, key);

@@ -2,6 +2,7 @@
 #![tactic(auto)]
 
 ghost use Rattle.std.specs.Prelude.{◌≡◌, true, map, ◌+◌, ◌*◌, ◌≤◌, length, get_or};
+ghost use Rattle.numbers.specs.Numbers.{answer_number};
 ghost use Rattle.call_history.specs.Model as model;
 ghost use Rattle.call_model.specs.Calls.{answer_on, bytes_after};
 ghost use Rattle.call_model.specs.IfAny.{sound_if_any};
@@ -20,20 +21,20 @@ ghost use Rattle.call_sweep.specs.Steps.{nothing_goes, sweep_answer, sweep_table
 use bucket::Bucket;
 use entry::Entry;
 use node::MonotonicMillis;
+use numbers::Refusal;
 
-// Nodes that did not answer in time go, then replacements with an expired proof, and proved replacements take free entries. The answer
-// number.
-pub fn sweep_on(table: &mut [u8], clock: MonotonicMillis) -> u8
-    ensures value { result ≡ answer_on reading table.old (model.sweep clock.0) }
+// Nodes that did not answer in time go, then replacements with an expired proof, and proved replacements take free entries.
+pub fn sweep_on(table: &mut [u8], clock: MonotonicMillis) -> Result<(), Refusal>
+    ensures value { answer_number result ≡ answer_on reading table.old (model.sweep clock.0) }
     ensures table_after { table.new ≡ bytes_after reading table.old (model.sweep clock.0) }
 {
     sweep(table, clock)
 }
 
 // The same on no bytes or on a sound table, where nothing is left to test.
-pub fn sweep_on_sound(table: &mut [u8], clock: MonotonicMillis) -> u8
+pub fn sweep_on_sound(table: &mut [u8], clock: MonotonicMillis) -> Result<(), Refusal>
     requires { sound_if_any table.old ≡ true }
-    ensures value { result ≡ answer_on reading table.old (model.sweep clock.0) }
+    ensures value { answer_number result ≡ answer_on reading table.old (model.sweep clock.0) }
     ensures table_after { table.new ≡ bytes_after reading table.old (model.sweep clock.0) }
 {
     sweep_sound(table, clock)
@@ -59,11 +60,9 @@ fn all_stay(bytes: &[u8], at: usize, n: usize, waiting: bool, time: MonotonicMil
     ensures { result ≡ all (stays waiting time.0) (entries_at bytes.now at n) }
 {
     let mut stay = true;
-    let mut i = n;
-    while 0 < i {
-        i -= 1;
+    for i in (0..n).rev() {
         let here = entry_stays(bytes, at + i * Entry::SIZE, waiting, time);
-        stay = bucket_entry::both(here, stay);
+        stay = here && stay;
     }
     stay
 }
@@ -106,39 +105,37 @@ fn sweep_buckets(bytes: &mut [u8], time: MonotonicMillis)
     ensures { bytes.new ≡ encode_table (own_of bytes.old) (clock_of bytes.old) (map (on_sweep time.0) (buckets_of bytes.old)) }
 {
     let count = table::bucket_count(bytes);
-    let mut i = 0;
-    while i < count {
+    for i in 0..count {
         sweep_bucket(bytes, table::HEADER_SIZE + i * Bucket::SIZE, time);
-        i += 1;
     }
 }
 
 // Sweeps the table: nodes that did not answer in time go, then replacements with an expired proof, and proved replacements take free
-// entries. The answer number is 0, or 1 or 2 and nothing is written.
-pub fn sweep(table: &mut [u8], time: MonotonicMillis) -> u8
-    ensures value { result ≡ sweep_answer table.old time.0 }
+// entries. Refused with 1 or 2, nothing is written.
+pub fn sweep(table: &mut [u8], time: MonotonicMillis) -> Result<(), Refusal>
+    ensures value { answer_number result ≡ sweep_answer table.old time.0 }
     ensures table_after { table.new ≡ sweep_table table.old time.0 }
 {
     if !table_sound::sound(table) {
-        return numbers::UNSOUND;
+        return Err(Refusal::Unsound);
     }
     sweep_sound(table, time)
 }
 
 // The same on no bytes or on a sound table.
-fn sweep_sound(table: &mut [u8], time: MonotonicMillis) -> u8
+fn sweep_sound(table: &mut [u8], time: MonotonicMillis) -> Result<(), Refusal>
     requires { sound_if_any table.old ≡ true }
-    ensures value { result ≡ sweep_answer table.old time.0 }
+    ensures value { answer_number result ≡ sweep_answer table.old time.0 }
     ensures table_after { table.new ≡ sweep_table table.old time.0 }
 {
     if table.len() == 0 {
-        return numbers::UNSOUND;
+        return Err(Refusal::Unsound);
     }
     let clock = table::clock(table);
     if time.0 < clock.0 {
-        return numbers::CLOCK_BACK;
+        return Err(Refusal::ClockBack);
     }
     sweep_buckets(table, time);
     table::set_clock(table, time);
-    numbers::DONE
+    Ok(())
 }

@@ -1,2 +1,3 @@
 pub mod Touch
 pub mod Slots
+pub mod Refusals

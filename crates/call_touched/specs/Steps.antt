@@ -10,8 +10,8 @@ use Rattle.call_model.specs.Reading.{reading}
 use Rattle.table.specs.declared.Touched.{Touched}
 use Rattle.table.specs.declared.Touched.TheVariants.{WrongKey, Own, NotKept, Slot}
 use Rattle.table.specs.Steps.{touched_by}
-use Rattle.call_touched.specs.declared.Placed.{Placed}
-use Rattle.call_touched.specs.declared.Placed.TheVariants.{NotPlaced, In}
+use Rattle.call_touched.specs.Placed.{Placed}
+use Rattle.call_touched.specs.Placed.{NotPlaced, In}
 use Rattle.call_touched.specs.declared.Reach.{Reach}
 use Rattle.call_touched.specs.declared.Reach.TheVariants.{Unsound, At}
 

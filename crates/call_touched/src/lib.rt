@@ -3,15 +3,18 @@
 #![tactic(auto)]
 
 ghost use Rattle.std.specs.Prelude.{◌≡◌, true, ◌+◌, ◌≤◌, length};
+ghost use Rattle.numbers.specs.Numbers.{answer_number};
 ghost use Rattle.lists.specs.Lists.{first};
 ghost use Rattle.table_model.specs.Layout.{count_of, offset_of, bucket_at, header_sound};
 ghost use Rattle.call_model.specs.IfAny.{sound_if_any};
 ghost use Rattle.bucket.specs.Steps.{contents, Shows, InBounds};
 ghost use Rattle.bucket_lookup.specs.Steps.{Ready};
+ghost use Rattle.call_touched.specs.Placed.{placed};
 ghost use Rattle.call_touched.specs.Steps.{touched_sound, Below, reached, is_wrong_key, is_own_key, key_tests, kept_place, SoundAt, with_bucket};
 
 use bucket::Bucket;
 use node::MonotonicMillis;
+use numbers::Refusal;
 use table::Touched;
 
 // Where a key leads.
@@ -81,40 +84,29 @@ fn is_own_key(touched: Touched) -> bool
     }
 }
 
-// Answers 5 to 7, or 0.
-pub fn key_number(touched: Touched, address: &[u8]) -> u8
-    ensures { result ≡ first (key_tests touched address.now) }
+// Refuses with 5 to 7.
+pub fn key_number(touched: Touched, address: &[u8]) -> Result<(), Refusal>
+    ensures { answer_number result ≡ first (key_tests touched address.now) }
 {
     if is_wrong_key(touched) {
-        return numbers::WRONG_KEY;
+        return Err(Refusal::WrongKey);
     }
     if !node::is_address_size(address.len()) {
-        return numbers::WRONG_ADDRESS;
+        return Err(Refusal::WrongAddress);
     }
     if is_own_key(touched) {
-        return numbers::OWN_KEY;
+        return Err(Refusal::OwnKey);
     }
-    numbers::DONE
+    Ok(())
 }
 
-// What the tests before the bucket's own find of a call with a key.
-#[derive(Clone, Copy)]
-pub enum Placed {
-    // The answer number, from 1 to 12.
-    NotPlaced(u8),
-    // The slot of the key's bucket.
-    In(usize),
-}
-
-// Answer 12, or the slot of the key's bucket.
-pub fn kept_place(touched: Touched) -> Placed
-    ensures { result ≡ kept_place touched }
+// The slot of the key's bucket, or refuses with 12.
+pub fn kept_place(touched: Touched) -> Result<usize, Refusal>
+    ensures { placed result ≡ kept_place touched }
 {
     match touched {
-        Touched::WrongKey => Placed::NotPlaced(numbers::NOT_KEPT),
-        Touched::Own => Placed::NotPlaced(numbers::NOT_KEPT),
-        Touched::NotKept => Placed::NotPlaced(numbers::NOT_KEPT),
-        Touched::Slot(slot) => Placed::In(slot),
+        Touched::WrongKey | Touched::Own | Touched::NotKept => Err(Refusal::NotKept),
+        Touched::Slot(slot) => Ok(slot),
     }
 }
 

@@ -48,7 +48,7 @@ pub extern "C" fn coghammer_init(table: &mut [u8], key: &[u8], buckets: usize) -
     ensures value { result ≡ init_answer table.old key.now buckets }
     ensures table_after { table.new ≡ init_table table.old key.now buckets }
 {
-    discv4::init(table, key, buckets)
+    numbers::answer_number(discv4::init(table, key, buckets))
 }
 
 // A datagram came from the sender's address and UDP port, signed with this key; the key is empty where the signature recovers none. The

@@ -10,7 +10,7 @@ ghost use Rattle.call_low.specs.Got.{full_clock_number, answer_low, bytes_low, r
 ghost use Rattle.capi_codes.specs.Codes.{received_code};
 ghost use Rattle.capi_calls.specs.Told.{told_clock};
 
-use call_low::FullClock;
+use call_low::ClockError;
 use clock32::LowMillis;
 use node::{MonotonicMillis, UnixSeconds};
 
@@ -53,7 +53,15 @@ pub fn ping_sent_on(
     ensures value { result ≡ answer_on reading table.old (model.ping_sent clock key.now address.now udp tcp hash.now) }
     ensures table_after { table.new ≡ bytes_after reading table.old (model.ping_sent clock key.now address.now udp tcp hash.now) }
 {
-    call_ping_sent::ping_sent_on(table, MonotonicMillis(clock), key, address, udp, tcp, hash)
+    numbers::answer_number(call_ping_sent::ping_sent_on(
+        table,
+        MonotonicMillis(clock),
+        key,
+        address,
+        udp,
+        tcp,
+        hash,
+    ))
 }
 
 // The answer number of a sweep.
@@ -61,7 +69,7 @@ pub fn sweep_on(table: &mut [u8], clock: u64) -> u8
     ensures value { result ≡ answer_on reading table.old (model.sweep clock) }
     ensures table_after { table.new ≡ bytes_after reading table.old (model.sweep clock) }
 {
-    call_sweep::sweep_on(table, MonotonicMillis(clock))
+    numbers::answer_number(call_sweep::sweep_on(table, MonotonicMillis(clock)))
 }
 
 // ---- by a reading of 32 bits
@@ -105,7 +113,15 @@ pub fn ping_sent_low_on(
     ensures value { result ≡ answer_low table.old (model.ping_sent reading key.now address.now udp tcp hash.now) }
     ensures table_after { table.new ≡ bytes_low table.old (model.ping_sent reading key.now address.now udp tcp hash.now) }
 {
-    call_low::ping_sent_low_on(table, LowMillis(reading), key, address, udp, tcp, hash)
+    numbers::answer_number(call_low::ping_sent_low_on(
+        table,
+        LowMillis(reading),
+        key,
+        address,
+        udp,
+        tcp,
+        hash,
+    ))
 }
 
 // The answer number of a sweep.
@@ -113,17 +129,17 @@ pub fn sweep_low_on(table: &mut [u8], reading: u32) -> u8
     ensures value { result ≡ answer_low table.old (model.sweep reading) }
     ensures table_after { table.new ≡ bytes_low table.old (model.sweep reading) }
 {
-    call_low::sweep_low_on(table, LowMillis(reading))
+    numbers::answer_number(call_low::sweep_low_on(table, LowMillis(reading)))
 }
 
 // The answer number of a full clock. Writes the clock.
-pub fn tell_clock(told: &mut [u64; 1], clock: FullClock) -> u8
+pub fn tell_clock(told: &mut [u64; 1], clock: Result<MonotonicMillis, ClockError>) -> u8
     ensures { (result ≡ full_clock_number clock) × (told.new ≡ told_clock clock told.old) }
 {
     match clock {
-        FullClock::Unsound => numbers::UNSOUND,
-        FullClock::Back => numbers::CLOCK_BACK,
-        FullClock::At(t) => {
+        Err(ClockError::Unsound) => numbers::UNSOUND,
+        Err(ClockError::Back) => numbers::CLOCK_BACK,
+        Ok(t) => {
             *told = [t.0];
             numbers::DONE
         }

@@ -1,13 +1,11 @@
 -- The answers of the C boundary in one number: the answer number, and a value above it.
-use Rattle.std.specs.Prelude.{ℕ, ◌+◌, ◌*◌, ◌%◌, Bool, true, false}
+use Rattle.std.specs.Prelude.{ℕ, ◌+◌, ◌*◌, ◌%◌, Bool, true, false, Option, Some, None, Result}
 use Rattle.call_answer.specs.declared.Standing.{Standing}
 use Rattle.call_answer.specs.declared.Standing.TheVariants.{Tail, TookEntry, RangeFull, Waiting}
 use Rattle.call_answer.specs.declared.Outcome.{Outcome}
 use Rattle.call_answer.specs.declared.Outcome.TheVariants.{Refused, Ping, Pong, FindNode, Neighbors, EnrRequest, EnrResponse}
 use Rattle.call_answer.specs.declared.Received.{Received}
-use Rattle.written.specs.declared.Written.{Written}
-use Rattle.packet_model.specs.declared.EnrSeq.{EnrSeq}
-use Rattle.packet_model.specs.declared.EnrSeq.TheVariants.{Absent, Present}
+use Rattle.written.specs.declared.WriteError.{WriteError}
 use Rattle.closest_nodes.specs.declared.Listed.{Listed}
 use Rattle.written.specs.Written.{written_number, written_size}
 
@@ -55,11 +53,11 @@ abbrev pub listed_code : Listed → ℕ
 listed_code l = code l.number (l.count + 256 * l.distances)
 
 -- a write's: the value is how many bytes were written
-abbrev pub written_code : Written → ℕ
+abbrev pub written_code : Result ℕ WriteError → ℕ
 written_code w = code (written_number w) (written_size w)
 
 -- ---- enr-seq as C passes it
 
-abbrev pub seq_of : Bool → ℕ → EnrSeq
-seq_of true n = Present n
-seq_of false n = Absent
+abbrev pub seq_of : Bool → ℕ → Option ℕ
+seq_of true n = Some n
+seq_of false n = None

@@ -8,8 +8,7 @@ ghost use Rattle.capi_codes.specs.Codes.{number_in, due_value, standing_value, o
 
 use call_answer::{Outcome, Standing};
 use closest_nodes::Listed;
-use packet_model::EnrSeq;
-use written::Written;
+use written::WriteError;
 
 // The code of an answer number and a value.
 pub fn code(number: u8, value: u32) -> u32
@@ -74,7 +73,7 @@ pub fn listed_code(listed: Listed) -> u32
     code(listed.number, count + 256 * distances)
 }
 
-pub fn written_code(written: Written) -> u32
+pub fn written_code(written: Result<usize, WriteError>) -> u32
     requires { written_size written < 2 ^ 24 }
     ensures { result ≡ written_code written }
 {
@@ -83,12 +82,8 @@ pub fn written_code(written: Written) -> u32
     code(number, size as u32)
 }
 
-pub fn enr_seq_of(present: bool, value: u64) -> EnrSeq
+pub fn enr_seq_of(present: bool, value: u64) -> Option<u64>
     ensures { result ≡ seq_of present value }
 {
-    if present {
-        EnrSeq::Present(value)
-    } else {
-        EnrSeq::Absent
-    }
+    present.then_some(value)
 }

@@ -1,7 +1,6 @@
 -- What C is told of a boot list that was read or written, as numbers in fixed places.
-use Rattle.std.specs.Prelude.{ℕ, List, [], ◌∷◌}
-use Rattle.written.specs.declared.Written.{Written}
-use Rattle.written.specs.declared.Written.TheVariants.{Done, Short, Unwritable}
+use Rattle.std.specs.Prelude.{ℕ, List, [], ◌∷◌, Result, Ok, Err}
+use Rattle.written.specs.declared.WriteError.{WriteError}
 use Rattle.enode_list.specs.declared.End.{End}
 use Rattle.enode_list.specs.declared.End.TheVariants.{Complete, Unfit, Full}
 use Rattle.enode_list.specs.declared.Boot.{Boot}
@@ -18,7 +17,6 @@ abbrev pub told_boot : Boot → List ℕ
 told_boot b = b.count ∷ end_number b.end ∷ end_line b.end ∷ []
 
 -- of a write: the bytes written; as it was where the write is refused
-abbrev pub size_after : Written → List ℕ → List ℕ
-size_after (Done size) old = size ∷ []
-size_after Short old = old
-size_after Unwritable old = old
+abbrev pub size_after : Result ℕ WriteError → List ℕ → List ℕ
+size_after (Ok size) old = size ∷ []
+size_after (Err e) old = old

@@ -6,7 +6,7 @@ ghost use Rattle.written.specs.Written.{written_number};
 ghost use Rattle.capi_enode.specs.Told.{end_line, told_boot, size_after};
 
 use enode_list::{Boot, End};
-use written::Written;
+use written::WriteError;
 
 // The line that ended a reading, or 0.
 fn end_line(end: End) -> usize
@@ -33,15 +33,15 @@ pub fn tell_read(told: &mut [u64; 3], boot: Boot) -> u8
 }
 
 // The answer number of a write. Writes how many bytes were written, where it is 0.
-pub fn tell_written(size: &mut [u64; 1], answer: Written) -> u8
+pub fn tell_written(size: &mut [u64; 1], answer: Result<usize, WriteError>) -> u8
     ensures { (result ≡ written_number answer) × (size.new ≡ size_after answer size.old) }
 {
     match answer {
-        Written::Done(bytes) => {
+        Ok(bytes) => {
             *size = [bytes as u64];
             numbers::DONE
         }
-        Written::Short => numbers::SHORT_ROOM,
-        Written::Unwritable => numbers::NOT_WRITABLE,
+        Err(WriteError::Short) => numbers::SHORT_ROOM,
+        Err(WriteError::Unwritable) => numbers::NOT_WRITABLE,
     }
 }

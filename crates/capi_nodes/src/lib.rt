@@ -35,13 +35,9 @@ pub fn unpacked(nodes: &[u8]) -> NodeList
     ensures { (result.len ≡ length nodes.now / 85) × (take result.len result.nodes ≡ (packed_list nodes.now).nodes) }
 {
     let len = nodes.len() / 85;
-    let none = node::no_node();
-    let mut list = [none; 16];
-    let mut i = 0;
-    while i < len {
-        let node = packed_at(nodes, i);
-        list[i] = node;
-        i += 1;
+    let mut list = [node::no_node(); 16];
+    for i in 0..len {
+        list[i] = packed_at(nodes, i);
     }
     NodeList { len, nodes: list }
 }
@@ -49,8 +45,5 @@ pub fn unpacked(nodes: &[u8]) -> NodeList
 pub fn is_packed(nodes: &[u8]) -> bool
     ensures { result ≡ is_packed nodes.now }
 {
-    if 1360 < nodes.len() {
-        return false;
-    }
-    nodes.len() % 85 == 0
+    nodes.len() <= 1360 && nodes.len() % 85 == 0
 }

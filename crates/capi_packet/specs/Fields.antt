@@ -1,15 +1,12 @@
 -- The fields of a packet as numbers in fixed places: type; version; expiration; enr-seq: present, value; from: start, length, UDP, TCP;
 -- to: start, length, UDP; hash: start, length; target: start, length; nodes: start, length; record: start, length. A field that the packet
 -- does not have is 0, and so are the start and the length of an unknown `from`.
-use Rattle.std.specs.Prelude.{ℕ, List, [], ◌∷◌}
-use Rattle.packet_model.specs.declared.EnrSeq.{EnrSeq}
-use Rattle.packet_model.specs.declared.EnrSeq.TheVariants.{Absent, Present}
+use Rattle.std.specs.Prelude.{ℕ, List, [], ◌∷◌, Option, Some, None}
 use Rattle.packet.specs.declared.Packet.{Packet}
 use Rattle.packet.specs.declared.Packet.TheVariants as packet
 use Rattle.packet.specs.declared.Parsed.{Parsed}
 use Rattle.packet.specs.declared.Parsed.TheVariants as parsed
-use Rattle.packet.specs.declared.SenderAddress.{SenderAddress}
-use Rattle.packet.specs.declared.SenderAddress.TheVariants.{Unknown, Known}
+use Rattle.packet_span.specs.declared.Span.{Span}
 use Rattle.packet.specs.declared.Ping.{Ping}
 use Rattle.packet.specs.declared.Pong.{Pong}
 use Rattle.packet.specs.declared.FindNode.{FindNode}
@@ -17,22 +14,22 @@ use Rattle.packet.specs.declared.Neighbors.{Neighbors}
 use Rattle.packet.specs.declared.EnrRequest.{EnrRequest}
 use Rattle.packet.specs.declared.EnrResponse.{EnrResponse}
 
-abbrev pub seq_present : EnrSeq → ℕ
-seq_present Absent = 0
-seq_present (Present n) = 1
+abbrev pub seq_present : Option ℕ → ℕ
+seq_present None = 0
+seq_present (Some n) = 1
 
-abbrev pub seq_value : EnrSeq → ℕ
-seq_value Absent = 0
-seq_value (Present n) = n
+abbrev pub seq_value : Option ℕ → ℕ
+seq_value None = 0
+seq_value (Some n) = n
 
 -- an unknown address starts at 0 and has no bytes
-abbrev pub from_start : SenderAddress → ℕ
-from_start Unknown = 0
-from_start (Known span) = span.start
+abbrev pub from_start : Option Span → ℕ
+from_start None = 0
+from_start (Some span) = span.start
 
-abbrev pub from_len : SenderAddress → ℕ
-from_len Unknown = 0
-from_len (Known span) = span.len
+abbrev pub from_len : Option Span → ℕ
+from_len None = 0
+from_len (Some span) = span.len
 
 abbrev pub flat_ping : Ping → List ℕ
 flat_ping p =

@@ -8,46 +8,31 @@ ghost use Rattle.packet_datagram.specs.Datagram.{packet_in};
 ghost use Rattle.capi_packet.specs.Fields.{seq_present, seq_value, from_start, from_len, flat_ping, flat_pong, flat_find_node, flat_neighbors, flat_enr_request, flat_enr_response, flat_packet, read_number, fields_after};
 
 use node::Node;
-use packet::{
-    EnrRequest, EnrResponse, FindNode, Neighbors, Packet, Parsed, Ping, Pong, SenderAddress,
-};
-use packet_model::EnrSeq;
+use packet::{EnrRequest, EnrResponse, FindNode, Neighbors, Packet, Parsed, Ping, Pong};
 use packet_span::Span;
 
-fn seq_present(enr_seq: EnrSeq) -> u64
+fn seq_present(enr_seq: Option<u64>) -> u64
     ensures { result ≡ seq_present enr_seq }
 {
-    match enr_seq {
-        EnrSeq::Absent => 0,
-        EnrSeq::Present(_) => 1,
-    }
+    u64::from(enr_seq.is_some())
 }
 
-fn seq_value(enr_seq: EnrSeq) -> u64
+fn seq_value(enr_seq: Option<u64>) -> u64
     ensures { result ≡ seq_value enr_seq }
 {
-    match enr_seq {
-        EnrSeq::Absent => 0,
-        EnrSeq::Present(n) => n,
-    }
+    enr_seq.unwrap_or(0)
 }
 
-fn from_start(address: SenderAddress) -> u64
+fn from_start(address: Option<Span>) -> u64
     ensures { result ≡ from_start address }
 {
-    match address {
-        SenderAddress::Unknown => 0,
-        SenderAddress::Known(span) => span.start as u64,
-    }
+    address.map_or(0, |span| span.start as u64)
 }
 
-fn from_len(address: SenderAddress) -> u64
+fn from_len(address: Option<Span>) -> u64
     ensures { result ≡ from_len address }
 {
-    match address {
-        SenderAddress::Unknown => 0,
-        SenderAddress::Known(span) => span.len as u64,
-    }
+    address.map_or(0, |span| span.len as u64)
 }
 
 fn flat_ping(p: Ping) -> [u64; 20]

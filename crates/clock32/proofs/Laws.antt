@@ -1,14 +1,13 @@
 -- When the widened clock is the true one, and when a reading is refused.
-use Rattle.std.proofs.Common.{◌≡◌, ℕ, ◌+◌, ◌%◌, ◌^◌, ◌<◌, Bool, true, false, ◌&&◌, ltb, sym, refl, ap, ◌∙◌, arith, ltb-true}
+use Rattle.std.proofs.Common.{◌≡◌, ℕ, ◌+◌, ◌%◌, ◌^◌, ◌<◌, Bool, true, false, ◌&&◌, ltb, sym, refl, ap, ◌∙◌, arith, ltb-true, cond, Some, None}
 use Rattle.lists.proofs.Laws.{and_right}
 use Rattle.node.specs.declared.MonotonicMillis.{MonotonicMillis}
-use Rattle.clock32.specs.declared.Widened.TheVariants.{At, Back}
-use Rattle.clock32.specs.Widened.{pick, step_of, widened}
+use Rattle.clock32.specs.Widened.{step_of, widened}
 use Rattle.clock32.specs.Claims.{WidenedAt, WidenedExactly}
 use Rattle.clock32.proofs.Steps.{StepIs, too_far, beyond, in_reach}
 
 -- a clock that was given: the test held, and the clock is the one of the test
-taken : (b : Bool) (u t : MonotonicMillis) → pick b (At u) Back ≡ At t → (b ≡ true) × (u ≡ t)
+taken : (b : Bool) (u t : MonotonicMillis) → cond b (Some u) None ≡ Some t → (b ≡ true) × (u ≡ t)
 taken true u t h = (refl, cc)
 taken false u t h = let z : ◌≡◌ {A = ℕ} 0 1 = cc in absurd (omega arith)
 
@@ -17,14 +16,14 @@ module _ (clock : ℕ) where
   ahead : (d n : ℕ) → d < 2 ^ 32 → n % 2 ^ 32 ≡ d → StepIs d clock ((clock + n) % 2 ^ 32)
   ahead d n h e = record { fits = h; small = omega arith; wraps = omega arith }
 
-  exactly : (d n : ℕ) → d < 2 ^ 31 → n % 2 ^ 32 ≡ d → clock + d < 2 ^ 64 → widened clock ((clock + n) % 2 ^ 32) ≡ At (record { 0 = clock + d })
+  exactly : (d n : ℕ) → d < 2 ^ 31 → n % 2 ^ 32 ≡ d → clock + d < 2 ^ 64 → widened clock ((clock + n) % 2 ^ 32) ≡ Some (record { 0 = clock + d })
   exactly d n h e fits = sym (in_reach d clock ((clock + n) % 2 ^ 32) (ahead d n (omega arith) e) h fits)
 
   abbrev sum : ℕ → ℕ
   sum reading = clock + step_of clock reading
 
   -- the clock that a reading gave is the sum, and fits
-  gave : (reading : ℕ) (t : MonotonicMillis) → widened clock reading ≡ At t → (sum reading < 2 ^ 64) × (record { 0 = sum reading } ≡ t)
+  gave : (reading : ℕ) (t : MonotonicMillis) → widened clock reading ≡ Some t → (sum reading < 2 ^ 64) × (record { 0 = sum reading } ≡ t)
   unfolding widened
   gave reading t h =
       let near : Bool = ltb (step_of clock reading) (2 ^ 31) in
@@ -37,11 +36,11 @@ module _ (clock : ℕ) where
   unfolding step_of
   low_sum reading h = omega arith
 
-  same-again : (reading : ℕ) → reading < 2 ^ 32 → sum reading < 2 ^ 64 → widened (sum reading) reading ≡ At (record { 0 = sum reading })
+  same-again : (reading : ℕ) → reading < 2 ^ 32 → sum reading < 2 ^ 64 → widened (sum reading) reading ≡ Some (record { 0 = sum reading })
   same-again reading small fits =
       sym (in_reach 0 (sum reading) reading (record { fits = omega arith; small = small; wraps = omega (arith, low_sum reading small) })
       (omega arith) (omega arith))
-      ∙ ap (λ (n : ℕ). At (record { 0 = n })) (omega arith)
+      ∙ ap (λ (n : ℕ). Some (record { 0 = n })) (omega arith)
 
   pub widens : WidenedAt clock
   widens =

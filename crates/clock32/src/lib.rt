@@ -10,27 +10,16 @@ use node::MonotonicMillis;
 #[derive(Clone, Copy)]
 pub struct LowMillis(pub u32);
 
-// What a reading gives with the table's clock.
-#[derive(Clone, Copy)]
-pub enum Widened {
-    // The full clock.
-    At(MonotonicMillis),
-    // The reading counts as going back: answer 2.
-    Back,
-}
-
-// The difference of the reading and the clock's low 32 bits, taken round the rollover, is added to the clock if it is below 2^31.
-pub fn widen(reading: LowMillis, clock: MonotonicMillis) -> Widened
+// The difference of the reading and the clock's low 32 bits, taken round the rollover, is added to the clock if it is below 2^31. Otherwise
+// the reading counts as going back (answer 2), as does a sum past 64 bits.
+pub fn widen(reading: LowMillis, clock: MonotonicMillis) -> Option<MonotonicMillis>
     ensures { result ≡ widened clock.0 reading.0 }
 {
     let low = (clock.0 % 4294967296) as u32;
-    let step = std::num::wrapping_sub_u32(reading.0, low);
+    let step = reading.0.wrapping_sub(low);
     if 2147483648 <= step {
-        return Widened::Back;
+        return None;
     }
-    let wide = step as u64;
-    if u64::MAX - wide < clock.0 {
-        return Widened::Back;
-    }
-    Widened::At(MonotonicMillis(clock.0 + wide))
+    let wide = clock.0.checked_add(u64::from(step))?;
+    Some(MonotonicMillis(wide))
 }

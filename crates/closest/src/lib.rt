@@ -14,10 +14,8 @@ fn store_nodes(list: &mut [Node], table: &[u8], choice: Choice)
     requires { (choice.nearest.count ≤ 16) × (choice.nearest.count ≤ length list.old) }
     ensures { list.new ≡ with_chosen table.now choice list.old }
 {
-    let mut i = 0;
-    while i < choice.nearest.count {
+    for i in 0..choice.nearest.count {
         list[i] = closest_nodes::chosen_node(table, choice, i);
-        i += 1;
     }
 }
 
@@ -30,22 +28,6 @@ pub fn closest(list: &mut [Node], table: &[u8], target: &[u8]) -> Listed
     let choice = closest_choice::closest_on(table, target, list.len());
     store_nodes(list, table, choice);
     closest_nodes::answer_of(choice)
-}
-
-// The list with the nodes that were chosen at its front.
-fn with_nodes(list: [Node; 16], table: &[u8], choice: Choice) -> [Node; 16]
-    requires { choice.nearest.count ≤ 16 }
-    ensures { result ≡ with_chosen table.now choice list }
-{
-    let count = choice.nearest.count;
-    let mut nodes = list;
-    let mut i = 0;
-    while i < count {
-        let node = closest_nodes::chosen_node(table, choice, i);
-        nodes[i] = node;
-        i += 1;
-    }
-    nodes
 }
 
 // What a closest call answers, and the list after it.
@@ -61,9 +43,8 @@ pub struct Found {
 pub fn closest_with(list: [Node; 16], table: &[u8], target: &[u8]) -> Found
     ensures { result ≡ found table.now target.now list }
 {
-    let choice = closest_choice::closest_on(table, target, 16);
-    let answer = closest_nodes::answer_of(choice);
-    let nodes = with_nodes(list, table, choice);
+    let mut nodes = list;
+    let answer = closest(&mut nodes, table, target);
     Found {
         number: answer.number,
         count: answer.count,

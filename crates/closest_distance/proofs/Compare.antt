@@ -1,58 +1,47 @@
--- Which of two byte strings of one length is the lower big-endian number: the first byte at which they differ decides. Assumes nothing.
-use mathlib.Core.Path.{◌≡◌, refl, sym, ap, ◌∙◌}
-use mathlib.Core.Bool.{true}
-use Prim.Native.Nat.{ℕ, zero, suc, ◌+◌, ◌-◌, ◌*◌, ◌<◌}
-use native.Mathlib.Nat.{zero-add}
+-- Byte strings of one length in the library's order, the first byte that differs decides, are in the order of their big-endian numbers. Assumes nothing.
+use mathlib.Core.Path.{◌≡◌, sym, ap, ◌∙◌}
+use mathlib.Core.List.{[], ◌∷◌}
+use Prim.Native.Nat.{ℕ, suc, ◌+◌, ◌*◌, ◌<◌}
+use native.Mathlib.Nat.{suc_inj}
 use native.Mathlib.Omega.{arith}
-use borrow.Author.Tests.{ltb-true, ltb-false, le-leb, lt-leb}
-use lib.Dec.{ltb, leb}
-use lib.ListN.{length, get_or}
-use Rattle.octets.specs.Octets.{Bytes, IsBytes, part, number, number_from}
-use Rattle.octets.proofs.Laws.{number_next, part_all}
+use borrow.Author.Tests.{ltb-true, ltb-false, eqb-true, eqb-false, le-leb, lt-leb}
+use lib.Dec.{ltb, leb, eqb}
+use lib.ListN.{length}
+use Rattle.std.proofs.Common.{Some}
+use Rattle.std.specs.Ordering.{nat_cmp, partial_le}
+use Rattle.std.specs.Cmp.Lexicographic.{slice_partial_cmp}
+use Rattle.octets.specs.Octets.{Bytes, IsBytes, number, number_from}
 use Rattle.lists.proofs.Laws.{by_test}
 
--- the number of the first i bytes
-abbrev pub up_to : Bytes → ℕ → ℕ
-up_to s i = number (part s 0 i)
+-- what begins lower stays lower
+lower : (s t : Bytes) (p q : ℕ) → length s ≡ length t → IsBytes s → p < q → number_from p s < number_from q t
+unfolding number_from
+lower [] [] p q same bytes h = h
+lower [] (y ∷ t) p q same bytes h = absurd (omega arith)
+lower (x ∷ s) [] p q same bytes h = absurd (omega arith)
+lower (x ∷ s) (y ∷ t) p q same bytes h = lower s t (p * 256 + x) (q * 256 + y) (suc_inj same) (λ i. bytes (suc i)) (omega (arith, bytes 0))
 
-pub none : (s : Bytes) → up_to s 0 ≡ 0
-unfolding part number_from
-none s = refl
+from_here : (s t : Bytes) (k : ℕ) → length s ≡ length t → IsBytes s → IsBytes t
+    → partial_le (slice_partial_cmp (λ x y. Some (nat_cmp x y))) s t ≡ leb (number_from k s) (number_from k t)
+unfolding number_from
+from_here [] [] k same bytes_s bytes_t = sym (le-leb k k (omega arith))
+from_here [] (y ∷ t) k same bytes_s bytes_t = absurd (omega arith)
+from_here (x ∷ s) [] k same bytes_s bytes_t = absurd (omega arith)
+from_here (x ∷ s) (y ∷ t) k same bytes_s bytes_t =
+    let rest : length s ≡ length t = suc_inj same in
+    let low : ℕ = number_from (k * 256 + x) s in
+    let high : ℕ = number_from (k * 256 + y) t in
+    by_test (ltb x y)
+    (λ h. let less : x < y = ltb-true x y h in
+    let less' : low < high = lower s t (k * 256 + x) (k * 256 + y) rest (λ i. bytes_s (suc i)) (omega arith) in
+    rw h (sym (le-leb low high (omega arith))))
+    (λ h. by_test (eqb x y)
+    (λ e. let is : x ≡ y = eqb-true x y e in
+    rw (h, e) (from_here s t (k * 256 + x) rest (λ i. bytes_s (suc i)) (λ i. bytes_t (suc i)) ∙ ap (λ (z : ℕ). leb low (number_from (k * 256 + z) t)) is))
+    (λ e. let more : y < x = omega (arith, ltb-false x y h, eqb-false x y e) in
+    let more' : high < low = lower t s (k * 256 + y) (k * 256 + x) (sym rest) (λ i. bytes_t (suc i)) (omega arith) in
+    rw (h, e) (sym (lt-leb low high more'))))
 
-next : (s : Bytes) (i : ℕ) → i < length s → up_to s (i + 1) ≡ up_to s i * 256 + get_or s i 0
-next s i h = rw zero-add at (number_next s 0 i (omega arith))
-
-whole : (s : Bytes) → up_to s (length s) ≡ number s
-whole s = ap number (part_all s (length s) (omega arith))
-
-module _ (a b : Bytes) (same : length a ≡ length b) where
-  -- equal so far, and the next byte
-  pub same_turn : (i : ℕ) → i < length a → up_to a i ≡ up_to b i → get_or a i 0 ≡ get_or b i 0 → up_to a (i + 1) ≡ up_to b (i + 1)
-  same_turn i h e x = next a i h ∙ omega arith ∙ sym (next b i (omega arith))
-
-  less-after : IsBytes a → (k i : ℕ) → i + k ≡ length a → up_to a i < up_to b i → number a < number b
-  less-after bytes zero i h l =
-      let e : i ≡ length a = omega arith in
-      let f : i ≡ length b = omega arith in
-      omega (arith, sym (ap (up_to a) e ∙ whole a), sym (ap (up_to b) f ∙ whole b))
-  less-after bytes (suc k) i h l =
-      less-after bytes k (i + 1) (omega arith) (omega (arith, bytes i, next a i (omega arith), next b i (omega arith)))
-
-  less-turn : IsBytes a → (i : ℕ) → i < length a → up_to a i ≡ up_to b i → get_or a i 0 < get_or b i 0 → number a < number b
-  less-turn bytes i h e x =
-      less-after bytes (length a - (i + 1)) (i + 1) (omega arith) (omega (arith, next a i h, next b i (omega arith), bytes i))
-
-  pub same-all : up_to a (length a) ≡ up_to b (length a) → true ≡ leb (number a) (number b)
-  same-all e =
-      sym (le-leb (number a) (number b) (omega (arith, sym (whole a) ∙ e ∙ ap (up_to b) same ∙ whole b)))
-
--- equal so far, and the next byte differs
-pub differs : (a b : Bytes) → length a ≡ length b → IsBytes a → IsBytes b → (i : ℕ) → i < length a → up_to a i ≡ up_to b i
-    → (get_or a i 0 ≡ get_or b i 0 → ⊥) → ltb (get_or a i 0) (get_or b i 0) ≡ leb (number a) (number b)
-differs a b same bytes_a bytes_b i h e x =
-    by_test (ltb (get_or a i 0) (get_or b i 0))
-    (λ k. let less : number a < number b = less-turn a b same bytes_a i h e (ltb-true (get_or a i 0) (get_or b i 0) k) in
-    k ∙ sym (le-leb (number a) (number b) (omega arith)))
-    (λ k. let less : number b < number a =
-    less-turn b a (sym same) bytes_b i (omega arith) (sym e) (omega (arith, ltb-false (get_or a i 0) (get_or b i 0) k, x)) in
-    k ∙ sym (lt-leb (number a) (number b) less))
+pub not_above : (s t : Bytes) → length s ≡ length t → IsBytes s → IsBytes t
+    → partial_le (slice_partial_cmp (λ x y. Some (nat_cmp x y))) s t ≡ leb (number s) (number t)
+not_above s t = from_here s t 0

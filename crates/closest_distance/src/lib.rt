@@ -10,10 +10,8 @@ pub fn far(target: [u8; 32], hash: [u8; 32]) -> [u8; 32]
     ensures { result ≡ big_endian 32 (distance target hash) }
 {
     let mut bytes = [0; 32];
-    let mut i = 0;
-    while i < 32 {
+    for i in 0..32 {
         bytes[i] = target[i] ^ hash[i];
-        i += 1;
     }
     bytes
 }
@@ -22,14 +20,5 @@ pub fn far(target: [u8; 32], hash: [u8; 32]) -> [u8; 32]
 pub fn not_farther(a: [u8; 32], b: [u8; 32]) -> bool
     ensures { result ≡ leb (number a) (number b) }
 {
-    let mut i = 0;
-    while i < 32 {
-        let x = a[i];
-        let y = b[i];
-        if x != y {
-            return x < y;
-        }
-        i += 1;
-    }
-    true
+    a <= b
 }

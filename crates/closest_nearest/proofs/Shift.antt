@@ -4,8 +4,9 @@ use mathlib.Core.List.{List, [], ◌∷◌, ◌++◌, append_assoc, append-nil, 
 use Prim.Native.Nat.{ℕ, zero, suc, ◌+◌, ◌-◌, ◌≤◌, ◌<◌}
 use native.Mathlib.Numerals.{add-one}
 use native.Mathlib.Omega.{arith}
-use lib.ListN.{length, take, drop, set, get_or, replicate, length-append, length-drop, length-map, get_or-append}
-use lib.Seq.{take-suc, drop-cons, set_at, append_snoc, length-take-le, take_all, get_or-take, take-append-add, take-append-le, drop-append-le}
+use Rattle.std.specs.List.{copy_within}
+use lib.ListN.{drop_of_length-le, length, take, drop, set, get_or, replicate, length-append, length-drop, length-map}
+use lib.Seq.{take-suc, set_at, append_snoc, length-take-le, take-append-add, take-append-le, drop-append-le}
 
 -- the length of a field that is an array
 pub length_mapped : (X Y : Type 0) (f : X → Y) (l : List X) (n : ℕ) → length (map f l) ≡ n → length l ≡ n
@@ -22,29 +23,12 @@ module _ {A : Type 0} where
   abbrev pub moved : ℕ → List A → ℕ → List A
   moved n l j = take (j + 1) l ++ take (n - j) (drop j l)
 
-  pub moved_none : (n : ℕ) (l : List A) → length l ≡ n + 1 → l ≡ moved n l n
-  moved_none n l len =
-      let e : n - n ≡ 0 = omega arith in
-      sym (take_all (n + 1) l (omega arith)) ∙ sym (append-nil (take (n + 1) l)) ∙ ap (λ (m : ℕ). take (n + 1) l ++ take m (drop n l)) (sym e)
-
-  pub move-turn : (n : ℕ) (l : List A) (j : ℕ) (d : A) → 0 < j → j ≤ n → length l ≡ n + 1
-      → set (moved n l j) j (get_or (moved n l j) (j - 1) d) ≡ moved n l (j - 1)
-  move-turn n l j d h k len =
-      let i : ℕ = j - 1 in
-      let front : length (take (j + 1) l) ≡ j + 1 = length-take-le (j + 1) l (omega arith) in
-      let same : get_or (moved n l j) i d ≡ get_or l i d =
-      get_or-append (take (j + 1) l) (take (n - j) (drop j l)) d i (omega arith) ∙ get_or-take (j + 1) l i d (omega arith) in
-      let e₁ : i + 1 ≡ j = omega arith in
-      let e₂ : suc i ≡ j = omega arith in
-      let e₃ : n - i ≡ suc (n - j) = omega arith in
-      let rest : take (n - i) (drop i l) ≡ get_or l i d ∷ take (n - j) (drop j l) =
-      ap (λ m. take (n - i) m) (drop-cons l i d (omega arith))
-      ∙ ap (λ (m : ℕ). take m (get_or l i d ∷ drop (suc i) l)) e₃
-      ∙ ap (λ (m : ℕ). get_or l i d ∷ take (n - j) (drop m l)) e₂ in
-      ap (λ a. set (moved n l j) j a) same
-      ∙ set_front l (take (n - j) (drop j l)) j (get_or l i d) d (omega arith)
-      ∙ ap (λ m. take j l ++ m) (sym rest)
-      ∙ ap (λ (m : ℕ). take m l ++ take (n - i) (drop i l)) (sym e₁)
+  -- as the library moves them
+  pub moved_up : (n : ℕ) (l : List A) (k : ℕ) → k ≤ n → length l ≡ n + 1 → copy_within l k n (k + 1) ≡ moved n l k
+  moved_up n l k h len =
+      let past : k + 1 + (n - k) ≡ n + 1 = omega arith in
+      let none : drop (k + 1 + (n - k)) l ≡ [] = rw past (drop_of_length-le l (omega arith)) in
+      ap (λ r. moved n l k ++ r) none ∙ append-nil (moved n l k)
 
   pub put_last : (n : ℕ) (l : List A) (k : ℕ) (x d : A) → k ≤ n → length l ≡ n + 1
       → set (moved n l k) k x ≡ take k l ++ x ∷ take (n - k) (drop k l)

@@ -39,12 +39,7 @@ fn put_at(list: [Near; 16], k: usize, x: Near) -> [Near; 16]
     ensures { result ≡ take k list ++ x ∷ take (15 - k) (drop k list) }
 {
     let mut l = list;
-    let mut j = 15;
-    while k < j {
-        let n = l[j - 1];
-        l[j] = n;
-        j -= 1;
-    }
+    l.copy_within(k..15, k + 1);
     l[k] = x;
     l
 }
@@ -72,15 +67,10 @@ impl Nearest {
         requires { Ordered self }
         ensures { result ≡ length (before (λ b. leb (farness x) (farness b)) (held self)) }
     {
-        let far = x.far;
-        let mut k = self.count;
-        while 0 < k {
-            let b = self.list[k - 1];
-            let other = b.far;
-            if !closest_distance::not_farther(far, other) {
-                return k;
+        for k in (0..self.count).rev() {
+            if !closest_distance::not_farther(x.far, self.list[k].far) {
+                return k + 1;
             }
-            k -= 1;
         }
         0
     }

@@ -32,9 +32,7 @@ pub fn taking_order(own: [u8; 32], target: [u8; 32], count: usize) -> [u8; 256]
     let mut order = [0; 256];
     let mut front = 0;
     let mut back = count;
-    let mut i = 256;
-    while front < back {
-        i -= 1;
+    for i in (256 - count..256).rev() {
         if bit_differs(own, target, i) {
             order[front] = i as u8;
             front += 1;

@@ -30,12 +30,10 @@ fn all_home(bytes: &[u8], at: usize, n: usize, own: [u8; 32], number: usize) -> 
     ensures { result ≡ all (in_home own number) (entries_at bytes.now at n) }
 {
     let mut home = true;
-    let mut i = n;
-    while 0 < i {
-        i -= 1;
+    for i in (0..n).rev() {
         let from = at + i * Entry::SIZE;
         let here = distance::in_bucket(&own, number, &bytes[from..from + 64]);
-        home = bucket_entry::both(here, home);
+        home = here && home;
     }
     home
 }
@@ -68,21 +66,18 @@ fn gather(
     let mut best = nearest;
     let mut home = true;
     let mut distances = 0;
-    let mut i = n;
-    while 0 < i {
-        i -= 1;
+    for i in (0..n).rev() {
         let from = at + i * Entry::SIZE;
         let hash = keccak::keccak256(&bytes[from..from + 64]);
         let here = distance::falls_in(&own, number, &hash);
-        home = bucket_entry::both(here, home);
+        home = here && home;
         let far = closest_distance::far(target, hash);
         distances += 1;
-        let next = best.insert(Near {
+        best = best.insert(Near {
             slot,
             index: i,
             far,
         });
-        best = next;
     }
     Gathered {
         home,
@@ -176,18 +171,15 @@ fn choose(
     let order = closest_order::taking_order(own, target, count);
     let mut best = Nearest::none();
     let mut distances = 0;
-    let mut k = 0;
-    while k < count {
+    for k in 0..count {
         let number = order[k] as usize;
         let slot = number - (256 - count);
         let visited = visit(bytes, slot, own, number, clock, target, best, distances);
         if !visited.sound {
             return unsound();
         }
-        let next = visited.nearest;
-        best = next;
+        best = visited.nearest;
         distances = visited.distances;
-        k += 1;
     }
     Chosen {
         sound: true,

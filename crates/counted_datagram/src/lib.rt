@@ -56,10 +56,12 @@ pub fn datagram_with(
     ensures table_after { table.new ≡ bytes_after reading table.old (model.datagram clock.0 unix.0 address.now port signer.now datagram.now) }
     ensures counters_value { result.counters ≡ raised counters (number_of result.received) }
 {
-    let received = call_datagram::datagram_on(table, clock, unix, address, port, signer, datagram);
-    let counted = counters::raise(counters, call_answer::number(received));
+    let mut after = counters;
+    let received = crate::datagram(
+        &mut after, table, clock, unix, address, port, signer, datagram,
+    );
     Counted {
         received,
-        counters: counted,
+        counters: after,
     }
 }

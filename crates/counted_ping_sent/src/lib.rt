@@ -2,6 +2,7 @@
 #![tactic(auto)]
 
 ghost use Rattle.std.specs.Prelude.{◌≡◌};
+ghost use Rattle.numbers.specs.Numbers.{answer_number};
 ghost use Rattle.call_history.specs.Model as model;
 ghost use Rattle.call_model.specs.Calls.{answer_on, bytes_after};
 ghost use Rattle.call_model.specs.Reading.{reading};
@@ -9,8 +10,9 @@ ghost use Rattle.counters.specs.Counters.{raised};
 
 use counters::{CountedNumber, Counters};
 use node::MonotonicMillis;
+use numbers::Refusal;
 
-// A ping with this hash went out to a node. The answer number.
+// A ping with this hash went out to a node.
 pub fn ping_sent(
     counters: &mut Counters,
     table: &mut [u8],
@@ -20,13 +22,13 @@ pub fn ping_sent(
     udp: u16,
     tcp: u16,
     hash: &[u8],
-) -> u8
-    ensures value { result ≡ answer_on reading table.old (model.ping_sent clock.0 key.now address.now udp tcp hash.now) }
+) -> Result<(), Refusal>
+    ensures value { answer_number result ≡ answer_on reading table.old (model.ping_sent clock.0 key.now address.now udp tcp hash.now) }
     ensures table_after { table.new ≡ bytes_after reading table.old (model.ping_sent clock.0 key.now address.now udp tcp hash.now) }
-    ensures counters_after { counters.new ≡ raised counters.old result }
+    ensures counters_after { counters.new ≡ raised counters.old (answer_number result) }
 {
     let answer = call_ping_sent::ping_sent_on(table, clock, key, address, udp, tcp, hash);
-    counters::count(counters, answer);
+    counters::count(counters, numbers::answer_number(answer));
     answer
 }
 
@@ -45,10 +47,10 @@ pub fn ping_sent_with(
     ensures table_after { table.new ≡ bytes_after reading table.old (model.ping_sent clock.0 key.now address.now udp tcp hash.now) }
     ensures counters_value { result.counters ≡ raised counters result.number }
 {
-    let number = call_ping_sent::ping_sent_on(table, clock, key, address, udp, tcp, hash);
-    let counted = counters::raise(counters, number);
+    let mut after = counters;
+    let answer = ping_sent(&mut after, table, clock, key, address, udp, tcp, hash);
     CountedNumber {
-        number,
-        counters: counted,
+        number: numbers::answer_number(answer),
+        counters: after,
     }
 }

@@ -3,14 +3,16 @@
 #![tactic(auto)]
 
 ghost use Rattle.std.specs.Prelude.{◌≡◌};
+ghost use Rattle.numbers.specs.Numbers.{answer_number};
 ghost use Rattle.call_history.specs.Model as model;
 ghost use Rattle.call_low.specs.Got.{answer_low, bytes_low};
 ghost use Rattle.counters.specs.Counters.{raised};
 
 use clock32::LowMillis;
 use counters::Counters;
+use numbers::Refusal;
 
-// A ping with this hash went out to a node. The answer number.
+// A ping with this hash went out to a node.
 pub fn ping_sent_low(
     counters: &mut Counters,
     table: &mut [u8],
@@ -20,12 +22,12 @@ pub fn ping_sent_low(
     udp: u16,
     tcp: u16,
     hash: &[u8],
-) -> u8
-    ensures value { result ≡ answer_low table.old (model.ping_sent reading.0 key.now address.now udp tcp hash.now) }
+) -> Result<(), Refusal>
+    ensures value { answer_number result ≡ answer_low table.old (model.ping_sent reading.0 key.now address.now udp tcp hash.now) }
     ensures table_after { table.new ≡ bytes_low table.old (model.ping_sent reading.0 key.now address.now udp tcp hash.now) }
-    ensures counters_after { counters.new ≡ raised counters.old result }
+    ensures counters_after { counters.new ≡ raised counters.old (answer_number result) }
 {
     let answer = call_low::ping_sent_low_on(table, reading, key, address, udp, tcp, hash);
-    counters::count(counters, answer);
+    counters::count(counters, numbers::answer_number(answer));
     answer
 }

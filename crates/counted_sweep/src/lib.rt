@@ -2,6 +2,7 @@
 #![tactic(auto)]
 
 ghost use Rattle.std.specs.Prelude.{◌≡◌};
+ghost use Rattle.numbers.specs.Numbers.{answer_number};
 ghost use Rattle.call_history.specs.Model as model;
 ghost use Rattle.call_model.specs.Calls.{answer_on, bytes_after};
 ghost use Rattle.call_model.specs.Reading.{reading};
@@ -9,16 +10,20 @@ ghost use Rattle.counters.specs.Counters.{raised};
 
 use counters::{CountedNumber, Counters};
 use node::MonotonicMillis;
+use numbers::Refusal;
 
-// Nodes that did not answer in time go, then replacements with an expired proof, and proved replacements take free entries. The answer
-// number.
-pub fn sweep(counters: &mut Counters, table: &mut [u8], clock: MonotonicMillis) -> u8
-    ensures value { result ≡ answer_on reading table.old (model.sweep clock.0) }
+// Nodes that did not answer in time go, then replacements with an expired proof, and proved replacements take free entries.
+pub fn sweep(
+    counters: &mut Counters,
+    table: &mut [u8],
+    clock: MonotonicMillis,
+) -> Result<(), Refusal>
+    ensures value { answer_number result ≡ answer_on reading table.old (model.sweep clock.0) }
     ensures table_after { table.new ≡ bytes_after reading table.old (model.sweep clock.0) }
-    ensures counters_after { counters.new ≡ raised counters.old result }
+    ensures counters_after { counters.new ≡ raised counters.old (answer_number result) }
 {
     let answer = call_sweep::sweep_on(table, clock);
-    counters::count(counters, answer);
+    counters::count(counters, numbers::answer_number(answer));
     answer
 }
 
@@ -28,10 +33,10 @@ pub fn sweep_with(counters: Counters, table: &mut [u8], clock: MonotonicMillis) 
     ensures table_after { table.new ≡ bytes_after reading table.old (model.sweep clock.0) }
     ensures counters_value { result.counters ≡ raised counters result.number }
 {
-    let number = call_sweep::sweep_on(table, clock);
-    let counted = counters::raise(counters, number);
+    let mut after = counters;
+    let answer = sweep(&mut after, table, clock);
     CountedNumber {
-        number,
-        counters: counted,
+        number: numbers::answer_number(answer),
+        counters: after,
     }
 }

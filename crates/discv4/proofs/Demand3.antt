@@ -24,8 +24,8 @@ use Rattle.counters.specs.declared.Counters.{Counters}
 use Rattle.counters.specs.Counters.{raised, cleared, count_of}
 use Rattle.counters.specs.History.{counted}
 use Rattle.counters.proofs.History.{counts_are_history}
-use Rattle.clock32.specs.declared.Widened.{Widened}
-use Rattle.clock32.specs.declared.Widened.TheVariants.{At, Back}
+use Rattle.std.specs.Prelude.{Option, Some, None}
+use Rattle.node.specs.declared.MonotonicMillis.{MonotonicMillis}
 use Rattle.clock32.specs.Widened.{widened}
 use Rattle.call_low.specs.Got.{has_clock, clocked, got, answer_low, bytes_low, got_all}
 use Rattle.call_low.proofs.Front.{low-number}
@@ -133,13 +133,13 @@ append-counted s (c ∷ cs) ds =
     (λ h. rw h (append-counted (table_after s c) cs ds))
 
 -- as it got its clock, a call is counted as it would be
-clocked-counted : (w : Widened) (c : Call) → is_counted (clocked w c) ≡ is_counted c
-clocked-counted (At t) (datagram r unix address udp key bytes) = refl
-clocked-counted (At t) (ping_sent r key address udp tcp hash) = refl
-clocked-counted (At t) (sweep r) = refl
-clocked-counted (At t) (closest target room) = refl
-clocked-counted (At t) (unclocked c) = refl
-clocked-counted Back c = refl
+clocked-counted : (w : Option MonotonicMillis) (c : Call) → is_counted (clocked w c) ≡ is_counted c
+clocked-counted (Some t) (datagram r unix address udp key bytes) = refl
+clocked-counted (Some t) (ping_sent r key address udp tcp hash) = refl
+clocked-counted (Some t) (sweep r) = refl
+clocked-counted (Some t) (closest target room) = refl
+clocked-counted (Some t) (unclocked c) = refl
+clocked-counted None c = refl
 
 pub got-counted : (clock : ℕ) (c : Call) → is_counted (got clock c) ≡ is_counted c
 unfolding got

@@ -8,8 +8,8 @@ use lib.ListN.{drop}
 use Rattle.octets.specs.Octets.{Bytes}
 use Rattle.lists.specs.Lists.{any}
 use Rattle.lists.proofs.Laws.{by_test, never}
-use Rattle.clock32.specs.declared.Widened.{Widened}
-use Rattle.clock32.specs.declared.Widened.TheVariants.{At, Back}
+use Rattle.std.specs.Prelude.{Option, Some, None}
+use Rattle.node.specs.declared.MonotonicMillis.{MonotonicMillis}
 use Rattle.clock32.specs.Widened.{widened}
 use Rattle.table_model.specs.Layout.{clock_of}
 use Rattle.table.proofs.Fresh.{init_kept}
@@ -36,22 +36,22 @@ one_or_two n ns =
     (λ z. by_test (eqb n 1) (λ o. rw (z, o) (λ h. refl))
     (λ o. by_test (eqb n 2) (λ t. rw (z, o, t) (λ h. refl)) (λ t. rw (z, o, t) (λ h. never (sym h)))))
 
-clocked-listed : (w : Widened) (c : Call) (n : ℕ) → has_clock c ≡ true → any (eqb n) (numbers_of (clocked w c)) ≡ true → any (eqb n) (numbers_of c) ≡ true
-clocked-listed (At t) (datagram r unix address udp key bytes) n timed h = h
-clocked-listed (At t) (ping_sent r key address udp tcp hash) n timed h = h
-clocked-listed (At t) (sweep r) n timed h = h
-clocked-listed (At t) (closest target room) n timed h = h
-clocked-listed (At t) (unclocked c) n timed h = h
-clocked-listed Back (datagram r unix address udp key bytes) n timed h = one_or_two n (drop 3 (numbers_of (datagram r unix address udp key bytes))) h
-clocked-listed Back (ping_sent r key address udp tcp hash) n timed h = one_or_two n (drop 3 (numbers_of (ping_sent r key address udp tcp hash))) h
-clocked-listed Back (sweep r) n timed h = one_or_two n [] h
-clocked-listed Back (closest target room) n timed h = never (sym timed)
-clocked-listed Back (unclocked c) n timed h = never (sym timed)
+clocked-listed : (w : Option MonotonicMillis) (c : Call) (n : ℕ) → has_clock c ≡ true → any (eqb n) (numbers_of (clocked w c)) ≡ true → any (eqb n) (numbers_of c) ≡ true
+clocked-listed (Some t) (datagram r unix address udp key bytes) n timed h = h
+clocked-listed (Some t) (ping_sent r key address udp tcp hash) n timed h = h
+clocked-listed (Some t) (sweep r) n timed h = h
+clocked-listed (Some t) (closest target room) n timed h = h
+clocked-listed (Some t) (unclocked c) n timed h = h
+clocked-listed None (datagram r unix address udp key bytes) n timed h = one_or_two n (drop 3 (numbers_of (datagram r unix address udp key bytes))) h
+clocked-listed None (ping_sent r key address udp tcp hash) n timed h = one_or_two n (drop 3 (numbers_of (ping_sent r key address udp tcp hash))) h
+clocked-listed None (sweep r) n timed h = one_or_two n [] h
+clocked-listed None (closest target room) n timed h = never (sym timed)
+clocked-listed None (unclocked c) n timed h = never (sym timed)
 
 low_listed : (s : Bytes) (c : Call) → any (eqb (low_number s c)) (numbers_of c) ≡ true
 low_listed s c =
     let n : ℕ = answer_low s c in
-    let w : Widened = widened (clock_of s) (clock_reading 0 c) in
+    let w : Option MonotonicMillis = widened (clock_of s) (clock_reading 0 c) in
     let listed : any (eqb n) (numbers_of (got (clock_of s) c)) ≡ true = (on-any-bytes reading).number_listed s (got (clock_of s) c) in
     rw (low_number_is s c)
     (by_test (has_clock c)

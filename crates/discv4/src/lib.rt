@@ -14,14 +14,15 @@ pub use counted_ping_sent::ping_sent;
 pub use counted_sweep::sweep;
 pub use table::init;
 // by a reading of 32 bits: one front, `full_clock`, for all of them
-pub use call_low::{FullClock, full_clock};
-pub use clock32::{LowMillis, Widened, widen};
+pub use call_low::{ClockError, full_clock};
+pub use clock32::{LowMillis, widen};
 pub use counted_burst_low::burst_low;
 pub use counted_datagram_low::datagram_low;
 pub use counted_ping_sent_low::ping_sent_low;
 pub use counted_sweep_low::sweep_low;
-// the answers
+// the answers: a call that gives nothing else answers `Ok`, or why it is refused
 pub use call_answer::{Outcome, Received, Standing};
+pub use numbers::{Refusal, answer_number};
 
 // ---- what a table tells
 // Lent to read. `table_state` has the numbers of the printout's first row, `print_table` writes the printout into lent bytes. `head` has the first
@@ -43,23 +44,20 @@ pub use packet_write_enr::{write_enr_request, write_enr_response};
 pub use packet_write_nodes::{write_find_node, write_neighbors};
 pub use packet_write_ping::write_ping;
 pub use packet_write_pong::write_pong;
-pub use written::{Written, written_number, written_size};
+pub use written::{WriteError, written_number, written_size};
 
 // ---- packets read
 // An accepted datagram's packet has numbers, and spans of the datagram: `field_part` gives the bytes of an address, a target or a
 // hash, `node_count` and `node_at` the nodes of a Neighbors. The address in a Ping's `from` may be unknown.
-pub use packet::{
-    EnrRequest, EnrResponse, FindNode, Neighbors, Ping, Pong, Recipient, Sender, SenderAddress,
-};
+pub use packet::{EnrRequest, EnrResponse, FindNode, Neighbors, Ping, Pong, Recipient, Sender};
 pub use packet_datagram::record_part;
 pub use packet_envelope::{hash_part, signature_part};
 pub use packet_fields::{node_at, node_count};
-pub use packet_model::EnrSeq;
 pub use packet_span::{Span, bytes_of as field_part};
 
 // ---- boot lists
 // `read_enodes` fills a lent list of nodes from enode lines, `write_enodes` writes a list as such lines; `read_enode` and `write_enode` are the same of one.
-pub use enode::{Enode, read_enode};
+pub use enode::read_enode;
 pub use enode_list::{Boot, End, end_number, read_enodes};
 pub use enode_write::write_enode;
 pub use enode_write_list::write_enodes;

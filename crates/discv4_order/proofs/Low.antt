@@ -4,8 +4,8 @@ use mathlib.Core.Path.{◌≡◌, refl, sym, ap, ap₂, subst, ◌∙◌}
 use mathlib.Core.Bool.{Bool, true, cond}
 use Rattle.octets.specs.Octets.{Bytes}
 use Rattle.lists.proofs.Laws.{never}
-use Rattle.clock32.specs.declared.Widened.{Widened}
-use Rattle.clock32.specs.declared.Widened.TheVariants.{At, Back}
+use Rattle.std.specs.Prelude.{Option, Some, None}
+use Rattle.node.specs.declared.MonotonicMillis.{MonotonicMillis}
 use Rattle.clock32.specs.Widened.{widened}
 use Rattle.clock32.proofs.Laws.{widens}
 use Rattle.table_model.specs.Layout.{clock_of}
@@ -33,19 +33,19 @@ use Rattle.discv4_order.proofs.Calls.{is-counted, e, Ok, ok-left, either}
 abbrev got_on : State → Call → Call
 got_on x c = got (clock_of x.table) c
 
-told-clocked : (w : Widened) (x : State) (r unix : ℕ) (address : Bytes) (udp : ℕ) (key bytes : Bytes)
+told-clocked : (w : Option MonotonicMillis) (x : State) (r unix : ℕ) (address : Bytes) (udp : ℕ) (key bytes : Bytes)
     → Told.packet (received_by w x.table r unix address udp key bytes) ≡ told x (clocked w (datagram r unix address udp key bytes))
-told-clocked (At t) x r unix address udp key bytes = refl
-told-clocked Back x r unix address udp key bytes = refl
+told-clocked (Some t) x r unix address udp key bytes = refl
+told-clocked None x r unix address udp key bytes = refl
 
-number-clocked : (w : Widened) (x : State) (r : ℕ) (key address : Bytes) (udp tcp : ℕ) (hash : Bytes)
+number-clocked : (w : Option MonotonicMillis) (x : State) (r : ℕ) (key address : Bytes) (udp tcp : ℕ) (hash : Bytes)
     → Told.number (answer_on reading x.table (clocked w (ping_sent r key address udp tcp hash))) ≡ told x (clocked w (ping_sent r key address udp tcp hash))
-number-clocked (At t) x r key address udp tcp hash = refl
-number-clocked Back x r key address udp tcp hash = refl
+number-clocked (Some t) x r key address udp tcp hash = refl
+number-clocked None x r key address udp tcp hash = refl
 
-sweep_clocked : (w : Widened) (x : State) (r : ℕ) → Told.number (answer_on reading x.table (clocked w (sweep r))) ≡ told x (clocked w (sweep r))
-sweep_clocked (At t) x r = refl
-sweep_clocked Back x r = refl
+sweep_clocked : (w : Option MonotonicMillis) (x : State) (r : ℕ) → Told.number (answer_on reading x.table (clocked w (sweep r))) ≡ told x (clocked w (sweep r))
+sweep_clocked (Some t) x r = refl
+sweep_clocked None x r = refl
 
 told-got : (x : State) (c : Call) → told_low x c ≡ told x (got_on x c)
 unfolding got received_low
@@ -89,7 +89,7 @@ module _ (e : Env) where
   same-reading r (unclocked c) in_c = never (sym in_c.1)
 
   -- as it gets its clock from what its reading gives
-  got-from : (r : ℕ) (c : Call) → InStretch e r c → (clock : ℕ) (w : Widened) → widened clock r ≡ w → got clock c ≡ clocked w c
+  got-from : (r : ℕ) (c : Call) → InStretch e r c → (clock : ℕ) (w : Option MonotonicMillis) → widened clock r ≡ w → got clock c ≡ clocked w c
   unfolding got
   got-from r (datagram now unix address udp key bytes) in_c clock w h =
       ap (λ v. clocked v (datagram now unix address udp key bytes)) (ap (widened clock) in_c.0 ∙ h)
@@ -112,25 +112,25 @@ module _ (own : Bytes) (count : ℕ) (one : 1 ≤ count) (most : count ≤ 256) 
 
   module _ (x : State) (ok : Ok own count one most x) (r : ℕ) (small : r < 2 ^ 32) where
     -- the second gets what it would have got as the first
-    got-after : (w : Widened) → widened (clock_of x.table) r ≡ w → (c d : Call) → IsCall (clocked w c) → InStretch rules r c → InStretch rules r d
+    got-after : (w : Option MonotonicMillis) → widened (clock_of x.table) r ≡ w → (c d : Call) → IsCall (clocked w c) → InStretch rules r c → InStretch rules r d
         → got (clock_of (table_after x.table (clocked w c))) d ≡ clocked w d
-    got-after Back h c d is in_c in-d =
-        got-from rules r d in-d (clock_of (table_after x.table (unclocked c))) Back (ap (λ z. widened (clock_of z) r) (back_left x.table c) ∙ h)
-    got-after (At t) h c d is in_c in-d =
+    got-after None h c d is in_c in-d =
+        got-from rules r d in-d (clock_of (table_after x.table (unclocked c))) None (ap (λ z. widened (clock_of z) r) (back_left x.table c) ∙ h)
+    got-after (Some t) h c d is in_c in-d =
         let c' = at_millis c t.0 in
-        got-from rules r d in-d (clock_of (table_after x.table c')) (At t)
+        got-from rules r d in-d (clock_of (table_after x.table c')) (Some t)
         (rw (bytes_same x.table c')
-        (clock-after own count one most x.table ok t.0 (λ n. widened n r ≡ At t) c' is (at_key rules c t.0 in_c.1)
+        (clock-after own count one most x.table ok t.0 (λ n. widened n r ≡ Some t) c' is (at_key rules c t.0 in_c.1)
         h ((widens (clock_of x.table)).again r t small h)))
 
     -- as they got their clocks
-    clocked-either : (w : Widened) (c d : Call) → IsCall (clocked w c) → IsCall (clocked w d) → InStretch rules r c → InStretch rules r d → Apart rules c d
+    clocked-either : (w : Option MonotonicMillis) (c d : Call) → IsCall (clocked w c) → IsCall (clocked w d) → InStretch rules r c → InStretch rules r d → Apart rules c d
         → EitherWay told left x (clocked w c) (clocked w d)
-    clocked-either (At t) c d is_c is-d in_c in-d apart =
+    clocked-either (Some t) c d is_c is-d in_c in-d apart =
         either own count one most x ok t.0 (at_millis c t.0) (at_millis d t.0) is_c is-d
         (at_key rules c t.0 in_c.1) (at_key rules d t.0 in-d.1)
         (λ i h g. apart i (sym (same-bucket rules i c t.0) ∙ h) (sym (same-bucket rules i d t.0) ∙ g))
-    clocked-either Back c d is_c is-d in_c in-d apart =
+    clocked-either None c d is_c is-d in_c in-d apart =
         let s = x.table in
         let same : (c d : Call) → bytes_after reading (bytes_after reading s (unclocked c)) (unclocked d) ≡ s =
         λ c d. back_left (bytes_after reading s (unclocked c)) d ∙ back_left s c in
@@ -144,7 +144,7 @@ module _ (own : Bytes) (count : ℕ) (one : 1 ≤ count) (most : count ≤ 256) 
           second = ap (λ z. told_back d (answer_on reading z (unclocked d))) (back_left s c);
         }
 
-    abbrev w : Widened
+    abbrev w : Option MonotonicMillis
     w = widened (clock_of x.table) r
 
     gets : (c : Call) → InStretch rules r c → got_on x c ≡ clocked w c

@@ -1,12 +1,11 @@
 -- The logarithmic distance of two hashes: 0 for equal ones, else the number of the bucket plus one.
 use Prim.Native.Nat.{ℕ, zero, suc, ◌+◌, ◌<◌, ◌^◌}
 use mathlib.Core.Path.{◌≡◌, refl, sym, ap, ◌∙◌}
-use mathlib.Core.Bool.{true}
 use native.Mathlib.Omega.{arith}
 use borrow.Author.Tests.{eq-eqb, eqb-true}
-use lib.Bits.{bit_xor, xor_self}
+use lib.Bits.{xor_self}
 use Rattle.octets.specs.Octets.{Bytes, number}
-use Rattle.distance.specs.Distance.{distance, bit_length, in_bucket}
+use Rattle.distance.specs.Distance.{distance, bit_length}
 use Rattle.distance.specs.Claims.{LogDistance}
 use Rattle.distance.proofs.Laws.{bit_length-zero, bit_length_positive, bit_length-most, distance-less, distance-zero}
 use Rattle.distance.proofs.Buckets.{in_bucket_bits}

@@ -10,13 +10,11 @@ pub fn bit_length(a: &[u8], b: &[u8]) -> usize
     requires { (length a.now ≡ 32) × (length b.now ≡ 32) }
     ensures { result ≡ bit_length (distance a.now b.now) }
 {
-    let mut i = 0;
-    while i < 32 {
+    for i in 0..32 {
         let x = a[i] ^ b[i];
         if x != 0 {
             return 8 * (32 - i) - zeros(x);
         }
-        i += 1;
     }
     0
 }

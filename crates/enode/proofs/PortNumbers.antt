@@ -11,15 +11,14 @@ use lib.Seq.{drop-drop, drop_at}
 use Rattle.octets.specs.Octets.{Bytes, part, same_bytes}
 use Rattle.octets.proofs.Laws.{same_eq, same_refl}
 use Rattle.lists.proofs.Laws.{by_test}
-use Rattle.text.specs.declared.Decimal.{Decimal}
-use Rattle.text.specs.declared.Decimal.TheVariants.{Value, NotDecimal}
+use Rattle.std.specs.Prelude.{Option, Some, None}
 use Rattle.text.specs.Decimals.{decimal, decimal_of}
 use Rattle.text.specs.Marks.{until}
 use Rattle.text.proofs.Decimals.{decimal_read, decimal-sound, no_mark}
 use Rattle.text.proofs.Marks.{cut-until, until-within, until_end, until_mark}
 use Rattle.enode.specs.Text.{discport, ports_text}
-use Rattle.enode.specs.Reading.{max_port, differing, udp_from, with_tcp, ports_of}
-use Rattle.enode.specs.declared.Ports.TheVariants as ports
+use Rattle.enode.specs.Reading.{max_port, both, differing, udp_from, with_tcp, ports_of}
+use Rattle.enode.specs.declared.Ports.{Ports}
 use Rattle.enode.proofs.Reading.{udp-end, udp-by, ports_by}
 
 -- what follows the TCP port
@@ -28,8 +27,15 @@ udp_text udp tcp = cond (eqb udp tcp) [] (discport ++ decimal udp)
 
 -- ---- what is read
 
-unfit_both : {P : Type 0} {udp tcp : ℕ} → ports.Unfit ≡ ports.Both udp tcp → P
+unfit_both : {P : Type 0} {udp tcp : ℕ} → None ≡ both udp tcp → P
 unfit_both h = absurd (let z : ◌≡◌ {A = ℕ} 0 1 = cc in omega arith)
+
+both_same : {u v t w : ℕ} → both u t ≡ both v w → (u ≡ v) × (t ≡ w)
+both_same {u} {v} {t} {w} h =
+    let a : Ports = record { udp = u; tcp = t } in
+    let b : Ports = record { udp = v; tcp = w } in
+    let e : a ≡ b = cc in
+    (ap (λ (p : Ports). p.udp) e, ap (λ (p : Ports). p.tcp) e)
 
 -- what is known of a UDP port that was read
 record Udp (s : Bytes) (at tcp udp t : ℕ) : Type 0 where
@@ -44,32 +50,32 @@ word_then s at e =
     ∙ ap (λ (l : Bytes). take 10 (drop at s) ++ l) (drop-drop 10 at s)
     ∙ ap (λ (w : Bytes). w ++ drop (at + 10) s) e
 
-differing-sound : (s : Bytes) (at tcp udp t : ℕ) (d : Decimal) → part s at 10 ≡ discport → decimal_of max_port (drop (at + 10) s) ≡ d
-    → differing tcp d ≡ ports.Both udp t → Udp s at tcp udp t
-differing-sound s at tcp udp t (Value u) w e r =
+differing-sound : (s : Bytes) (at tcp udp t : ℕ) (d : Option ℕ) → part s at 10 ≡ discport → decimal_of max_port (drop (at + 10) s) ≡ d
+    → differing tcp d ≡ both udp t → Udp s at tcp udp t
+differing-sound s at tcp udp t (Some u) w e r =
     by_test (eqb u tcp)
     (λ x. unfit_both (rw x at r))
     (λ x.
-    let both : ports.Both u tcp ≡ ports.Both udp t = rw x at r in
-    let same : u ≡ udp = cc in
+    let pair : both u tcp ≡ both udp t = rw x at r in
+    let same : u ≡ udp = (both_same pair).0 in
     let sound : (drop (at + 10) s ≡ decimal u) × (u ≤ max_port) = decimal-sound max_port (drop (at + 10) s) u e in
     let off : eqb udp tcp ≡ false = rw same at x in
     record {
-      same = cc;
+      same = (both_same pair).1;
       text = word_then s at w ∙ rw off (ap (λ (l : Bytes). discport ++ l) (sound.0 ∙ ap decimal same));
       most = omega (arith, sound.1);
     })
-differing-sound s at tcp udp t NotDecimal w e r = unfit_both r
+differing-sound s at tcp udp t None w e r = unfit_both r
 
-udp_sound : (s : Bytes) (at tcp udp t : ℕ) → tcp ≤ max_port → udp_from s at tcp ≡ ports.Both udp t → Udp s at tcp udp t
+udp_sound : (s : Bytes) (at tcp udp t : ℕ) → tcp ≤ max_port → udp_from s at tcp ≡ both udp t → Udp s at tcp udp t
 unfolding udp_from
 udp_sound s at tcp udp t h r =
     by_test (eqb at (length s))
     (λ x.
-    let both : ports.Both tcp tcp ≡ ports.Both udp t = rw x at r in
-    let same : tcp ≡ udp = cc in
+    let pair : both tcp tcp ≡ both udp t = rw x at r in
+    let same : tcp ≡ udp = (both_same pair).0 in
     record {
-      same = cc;
+      same = (both_same pair).1;
       text = drop_of_length-le s {i = at} (omega (arith, eqb-true at (length s) x)) ∙ sym (rw (eq-eqb udp tcp (sym same)));
       most = omega arith;
     })
@@ -84,10 +90,10 @@ pub record Said (s : Bytes) (at udp tcp : ℕ) : Type 0 where
   pub udp_most : udp ≤ max_port
   pub tcp_most : tcp ≤ max_port
 
-tcp_sound : (s : Bytes) (at udp tcp : ℕ) (d : Decimal) → decimal_of max_port (until 63 at s) ≡ d
-    → with_tcp d (udp_from s (at + length (until 63 at s))) ≡ ports.Both udp tcp → Said s at udp tcp
+tcp_sound : (s : Bytes) (at udp tcp : ℕ) (d : Option ℕ) → decimal_of max_port (until 63 at s) ≡ d
+    → with_tcp d (udp_from s (at + length (until 63 at s))) ≡ both udp tcp → Said s at udp tcp
 unfolding ports_text
-tcp_sound s at udp tcp (Value t) e r =
+tcp_sound s at udp tcp (Some t) e r =
     let sound : (until 63 at s ≡ decimal t) × (t ≤ max_port) = decimal-sound max_port (until 63 at s) t e in
     let u : Udp s (at + length (until 63 at s)) t udp tcp = udp_sound s (at + length (until 63 at s)) t udp tcp sound.1 r in
     record {
@@ -99,21 +105,21 @@ tcp_sound s at udp tcp (Value t) e r =
       udp_most = u.most;
       tcp_most = omega (arith, sound.1, u.same);
     }
-tcp_sound s at udp tcp NotDecimal e r = unfit_both r
+tcp_sound s at udp tcp None e r = unfit_both r
 
-pub ports_sound : (s : Bytes) (at udp tcp : ℕ) → ports_of s at ≡ ports.Both udp tcp → Said s at udp tcp
+pub ports_sound : (s : Bytes) (at udp tcp : ℕ) → ports_of s at ≡ both udp tcp → Said s at udp tcp
 unfolding ports_of
 ports_sound s at udp tcp r = tcp_sound s at udp tcp (decimal_of max_port (until 63 at s)) refl r
 
 -- ---- what is written
 
-udp_read : (s : Bytes) (at udp tcp : ℕ) → at ≤ length s → udp ≤ max_port → drop at s ≡ udp_text udp tcp → udp_from s at tcp ≡ ports.Both udp tcp
+udp_read : (s : Bytes) (at udp tcp : ℕ) → at ≤ length s → udp ≤ max_port → drop at s ≡ udp_text udp tcp → udp_from s at tcp ≡ both udp tcp
 unfolding part
 udp_read s at udp tcp h l e =
     by_test (eqb udp tcp)
     (λ x.
     let none : drop at s ≡ [] = rw x at e in
-    udp-end s at tcp (omega (arith, length-drop at s, ap length none)) ∙ ap (λ (u : ℕ). ports.Both u tcp) (sym (eqb-true udp tcp x)))
+    udp-end s at tcp (omega (arith, length-drop at s, ap length none)) ∙ ap (λ (u : ℕ). both u tcp) (sym (eqb-true udp tcp x)))
     (λ x.
     let some : drop at s ≡ discport ++ decimal udp = rw x at e in
     let long : 10 ≤ length (drop at s) = omega (arith, ap length some, length-append discport (decimal udp)) in
@@ -128,7 +134,7 @@ until_tcp s at udp tcp e =
     (λ x. until_end 63 s at (decimal tcp) (no_mark 63 tcp refl) (rw x at e ∙ append-nil (decimal tcp)))
     (λ x. until_mark 63 s at (decimal tcp) _ (no_mark 63 tcp refl) (rw x at e))
 
-pub ports_read : (s : Bytes) (at udp tcp : ℕ) → at ≤ length s → Said s at udp tcp → ports_of s at ≡ ports.Both udp tcp
+pub ports_read : (s : Bytes) (at udp tcp : ℕ) → at ≤ length s → Said s at udp tcp → ports_of s at ≡ both udp tcp
 unfolding ports_text
 ports_read s at udp tcp h p =
     let u : until 63 at s ≡ decimal tcp = until_tcp s at udp tcp p.text in

@@ -8,6 +8,7 @@ use borrow.Author.Tests.{le-leb, leb-true, eq-eqb, eqb-true}
 use lib.Dec.{leb}
 use lib.ListN.{length, get_or, take, drop, replicate, length-take, length-drop, length-append, length-map}
 use lib.Seq.{drop-cons, take_at, drop_at}
+use Rattle.std.specs.Prelude.{Some}
 use Rattle.octets.specs.Octets.{Bytes, IsBytes, part, same_bytes}
 use Rattle.octets.proofs.Laws.{length_part, same_eq, same_refl}
 use Rattle.lists.specs.Lists.{all, All}
@@ -19,7 +20,7 @@ use Rattle.node.specs.declared.Node.{Node}
 use Rattle.enode.specs.Text.{scheme, dotted, ports_text, enode_text}
 use Rattle.enode.specs.Reading.{node_of, is_keyed, enode_of}
 use Rattle.enode.specs.Spelling.{lowered, IsEnode, Spelling}
-use Rattle.enode.proofs.Octets.{marked, fit, not_fit, Told, octets-told, octets-read, dotted_marked}
+use Rattle.enode.proofs.Octets.{marked, not_fit, Told, octets-told, octets-read, dotted_marked}
 
 abbrev marks : List ℕ
 marks = 46 ∷ 46 ∷ 46 ∷ 58 ∷ []
@@ -91,7 +92,7 @@ told_is l n k t =
       tcp = omega (arith, t.tcp_most);
     })
 
-forth : (l : Bytes) (n : Node) → enode_of l ≡ fit n → (lowered l ≡ enode_text n) × IsEnode n
+forth : (l : Bytes) (n : Node) → enode_of l ≡ Some n → (lowered l ≡ enode_text n) × IsEnode n
 unfolding enode_of
 forth l n r =
     by_test (is_keyed l)
@@ -151,7 +152,7 @@ node_is n i =
     ap (λ (a : Bytes). built n.key 4 a n.endpoint.udp n.endpoint.tcp) (sym i.address)
     ∙ ap (λ (k : ℕ). built n.key k n.endpoint.address n.endpoint.udp n.endpoint.tcp) (sym i.len)
 
-back : (l : Bytes) (n : Node) → lowered l ≡ enode_text n → IsEnode n → enode_of l ≡ fit n
+back : (l : Bytes) (n : Node) → lowered l ≡ enode_text n → IsEnode n → enode_of l ≡ Some n
 unfolding enode_of part
 back l n e i =
     let octets : Bytes = address_of n.endpoint in
@@ -171,8 +172,8 @@ back l n e i =
     i.octets
     (at-All (λ (b : ℕ). b < 256) octets 0 (λ j h. i.octet_bytes j))
     after
-    ∙ ap (λ (key : Bytes). fit (node_of key octets udp tcp)) d.1
-    ∙ ap fit (node_is n i))
+    ∙ ap (λ (key : Bytes). Some (node_of key octets udp tcp)) d.1
+    ∙ ap Some (node_is n i))
 
 pub spelling : Spelling
 spelling l n = (λ r. forth l n r, λ p. back l n p.0 p.1)

@@ -1,5 +1,5 @@
 -- "Then text and record agree both ways, up to hex case".
-use Rattle.std.specs.Prelude.{◌<◌, ◌^◌, ◌≡◌, ◌↔◌, true, ◌++◌, map, length, take, drop, replicate}
+use Rattle.std.specs.Prelude.{◌<◌, ◌^◌, ◌≡◌, ◌↔◌, Some, ◌++◌, map, length, take, drop, replicate}
 use Rattle.octets.specs.Octets.{Bytes, IsBytes, part}
 use Rattle.text.specs.Hex.{lower}
 use Rattle.node.specs.Nodes.{address_of}
@@ -24,4 +24,4 @@ pub record IsEnode (n : Node) : Type 0 where
 
 -- a line is read as a node exactly if it is that node's line, up to hex case
 abbrev pub Spelling : Type 0
-Spelling = (l : Bytes) (n : Node) → (enode_of l ≡ record { fits = true; node = n }) ↔ ((lowered l ≡ enode_text n) × IsEnode n)
+Spelling = (l : Bytes) (n : Node) → (enode_of l ≡ Some n) ↔ ((lowered l ≡ enode_text n) × IsEnode n)

@@ -1,13 +1,13 @@
 -- Text and record agree both ways: what `Spelling` says of one line, for all lines of a text. Assumes nothing.
 use Prim.Native.Nat.{ℕ, zero, suc, ◌≤◌}
 use mathlib.Core.Path.{◌≡◌, refl, sym, ap, ap₂}
-use mathlib.Core.Bool.{Bool, true}
 use mathlib.Core.List.{List, [], ◌∷◌, ◌++◌, map, flat_map}
 use native.Mathlib.Omega.{arith}
 use lib.ListN.{length}
+use Rattle.std.specs.Prelude.{Some}
 use Rattle.octets.specs.Octets.{Bytes}
 use Rattle.lists.specs.Lists.{All}
-use Rattle.lists.proofs.Laws.{by_test, All-imp}
+use Rattle.lists.proofs.Laws.{All-imp}
 use Rattle.text.specs.Lines.{lines_of}
 use Rattle.text.proofs.Lines.{OneLine, lines-joined}
 use Rattle.node.specs.declared.Node.{Node}
@@ -15,12 +15,12 @@ use Rattle.enode.specs.Text.{enode_text, enode_line}
 use Rattle.enode.specs.Reading.{enode_of}
 use Rattle.enode.specs.Lists.{boot_text}
 use Rattle.enode.specs.Spelling.{lowered, IsEnode}
-use Rattle.enode.specs.declared.Enode.{Enode}
 use Rattle.enode.proofs.Spelling.{spelling}
 use Rattle.enode_list.specs.declared.End.{End}
 use Rattle.enode_list.specs.declared.End.TheVariants.{Complete}
 use Rattle.enode_list.specs.List.{end_number, nodes_from, end_from, boot_nodes, boot_end}
 use Rattle.enode_list.specs.Agreement.{Agreement}
+use Rattle.enode_list.proofs.Planned.{by_line}
 use Rattle.enode_list.proofs.Shown.{text-line, text-lowered}
 
 -- an end that has a number is not the end of the text
@@ -28,7 +28,7 @@ not_complete : {P : Type 0} (end : End) → (end_number end ≡ 0 → ⊥) → e
 not_complete end h e = absurd (h (ap end_number e))
 
 -- the line of a node is read as that node
-reads : (n : Node) → IsEnode n → enode_of (enode_text n) ≡ record { fits = true; node = n }
+reads : (n : Node) → IsEnode n → enode_of (enode_text n) ≡ Some n
 reads n is = (spelling (enode_text n) n).1 (text-lowered n is, is)
 
 reads_all : (ns : List Node) (room line : ℕ) → All IsEnode ns → length ns ≤ room
@@ -40,19 +40,18 @@ reads_all (n ∷ ns) (suc room) line is h =
     rw (reads n is.0) (ap (λ (ms : List Node). n ∷ ms) more.0, more.1)
 
 -- a line that fits is the line of its node, up to hex case
-line_is : (l : Bytes) → (enode_of l).fits ≡ true → enode_line (enode_of l).node ≡ lowered l ++ (0x0a ∷ [])
-line_is l e =
-    ap (λ (t : Bytes). t ++ (0x0a ∷ []))
-    (sym ((spelling l (enode_of l).node).0 (ap (λ (f : Bool). let r : Enode = record { fits = f; node = (enode_of l).node } in r) e)).0)
+line_is : (l : Bytes) (n : Node) → enode_of l ≡ Some n → enode_line n ≡ lowered l ++ (0x0a ∷ [])
+line_is l n e = ap (λ (t : Bytes). t ++ (0x0a ∷ [])) (sym ((spelling l n).0 e).0)
 
 lines_are : (ls : List Bytes) (room line : ℕ) → end_from line room ls ≡ Complete
     → flat_map enode_line (nodes_from room ls) ≡ flat_map (λ (l : Bytes). lowered l ++ (0x0a ∷ [])) ls
 unfolding flat_map
 lines_are [] room line = λ e. refl
-lines_are (l ∷ ls) zero line = by_test (enode_of l).fits (λ f. rw f (not_complete _ (λ z. omega arith))) (λ f. rw f (not_complete _ (λ z. omega arith)))
+lines_are (l ∷ ls) zero line =
+    by_line l (λ n f. rw f (not_complete _ (λ z. omega arith))) (λ f. rw f (not_complete _ (λ z. omega arith)))
 lines_are (l ∷ ls) (suc room) line =
-    by_test (enode_of l).fits
-    (λ f. rw f (λ e. ap₂ ◌++◌ (line_is l f) (lines_are ls room (suc line) e)))
+    by_line l
+    (λ n f. rw f (λ e. ap₂ ◌++◌ (line_is l n f) (lines_are ls room (suc line) e)))
     (λ f. rw f (not_complete _ (λ z. omega arith)))
 
 pub agreement : Agreement

@@ -1,4 +1,3 @@
 pub mod Planned
-pub mod Stored
 pub mod Shown
 pub mod Agreement

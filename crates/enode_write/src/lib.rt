@@ -11,7 +11,7 @@ ghost use Rattle.enode_write.specs.Steps.{key_text, address_text, discport_text,
 use node::Node;
 use octets::put_bytes;
 use text::{decimal_len, put_decimal, put_marked};
-use written::Written;
+use written::WriteError;
 
 // `enode://` and the key.
 fn put_key(buf: &mut [u8], at: usize, key: [u8; 64]) -> usize
@@ -138,20 +138,19 @@ pub fn enode_size(node: Node) -> usize
 pub fn is_writable(node: Node) -> bool
     ensures { result ≡ can_enode node }
 {
-    let endpoint = node.endpoint;
-    endpoint.len == 4
+    node.endpoint.len == 4
 }
 
 // Writes the line of a node with its 0A at the start of the room. An address of any length but 4 can't be written.
-pub fn write_enode(buf: &mut [u8], node: Node) -> Written
+pub fn write_enode(buf: &mut [u8], node: Node) -> Result<usize, WriteError>
     ensures answer { result ≡ written (can_enode node) (enode_line node) buf.old }
     ensures bytes { buf.new ≡ written_in (can_enode node) (enode_line node) buf.old }
 {
-    if is_writable(node) {
-        if enode_size(node) <= buf.len() {
-            return Written::Done(put_enode(buf, 0, node));
-        }
-        return Written::Short;
+    if !is_writable(node) {
+        return Err(WriteError::Unwritable);
     }
-    Written::Unwritable
+    if buf.len() < enode_size(node) {
+        return Err(WriteError::Short);
+    }
+    Ok(put_enode(buf, 0, node))
 }

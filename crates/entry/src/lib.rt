@@ -10,6 +10,7 @@ ghost use Rattle.entry.specs.Layout.{encode_entry, decode_entry, encode_endpoint
 use node::{Endpoint, MonotonicMillis, Node};
 
 // Document 01's ping state, quiet or out since a stated millisecond.
+// kept: as an Option it has the type of a proof, and the one can be given for the other.
 #[derive(Clone, Copy)]
 pub enum PingState {
     Quiet,
@@ -17,6 +18,7 @@ pub enum PingState {
 }
 
 // Document 01's proof: when the node last proved its endpoint.
+// kept: as an Option it has the type of a ping state, and the one can be given for the other.
 #[derive(Clone, Copy)]
 pub enum EndpointProof {
     Unproved,

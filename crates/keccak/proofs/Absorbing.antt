@@ -4,8 +4,9 @@ use mathlib.Core.List.{List, [], ◌∷◌, ◌++◌}
 use Prim.Native.Nat.{ℕ, zero, suc, ◌+◌, ◌-◌, ◌*◌, ◌/◌, ◌%◌, ◌<◌, ◌≤◌}
 use native.Mathlib.Nat.{mul-suc}
 use native.Mathlib.Omega.{arith}
-use lib.ListN.{length, take, drop, replicate, length-append, length-drop, length-replicate}
-use lib.Seq.{take_all, take-append-le, drop-append-le}
+use lib.ListN.{length, get_or, take, drop, replicate, length-append, length-drop, length-replicate}
+use lib.Seq.{drop-drop, take_all, take-append-le, drop-append-le}
+use Rattle.std.specs.Simd.{first_chunks}
 use Rattle.keccak_steps.specs.Permutation.{keccak_f}
 use Rattle.keccak_pad.specs.Padding.{padding, padded}
 use Rattle.keccak_blocks.specs.Blocks.{xor_block, squeezed}
@@ -61,22 +62,26 @@ module _ (m : List ℕ) (k : ℕ) (within : 136 * k ≤ length m) (rest : length
   unfolding keccak256
   keccak256-is = ap squeezed (last ∙ ap (absorbed (padded m)) (sym blocks))
 
--- the loop of `keccak256`, whose state s is that of the whole blocks of m before `at`
-module _ (m s : List ℕ) (at : ℕ) (whole : 136 * (at / 136) ≡ at) (state : s ≡ absorbed m (at / 136)) where
+-- block i of the whole blocks of a message
+chunk_at : (k : ℕ) (m : List ℕ) (i : ℕ) (d : List ℕ) → i < k → get_or (first_chunks 136 k m) i d ≡ block_at m i
+chunk_at zero m i d h = absurd (omega arith)
+chunk_at (suc k) m zero d h = refl
+chunk_at (suc k) m (suc i) d h =
+    let on : 136 + 136 * i ≡ 136 * suc i = omega arith in
+    chunk_at k (drop 136 m) i d (omega arith) ∙ ap (take 136) (drop-drop (136 * i) 136 m ∙ ap (λ (n : ℕ). drop n m) on)
+
+-- the loop of `keccak256`, whose state s is that of the first k blocks of m
+module _ (m s : List ℕ) (k : ℕ) (state : s ≡ absorbed m k) where
   -- a turn absorbs the next block
-  pub turn : keccak_f (xor_block s (take (at + 136 - at) (drop at m))) ≡ absorbed m ((at + 136) / 136)
+  pub turn : (chunks : List (List ℕ)) (n : ℕ) (d : List ℕ) → chunks ≡ first_chunks 136 n m → k < n → keccak_f (xor_block s (get_or chunks k d)) ≡ absorbed m (k + 1)
   unfolding absorbed
-  turn =
-      let size : at + 136 - at ≡ 136 = omega arith in
-      let next : suc (at / 136) ≡ (at + 136) / 136 = omega arith in
-      ap₂ (λ (a b : List ℕ). keccak_f (xor_block a b)) state (ap₂ (λ (n i : ℕ). take n (drop i m)) size (sym whole))
-      ∙ ap (absorbed m) next
+  turn chunks n d e h =
+      let next : suc k ≡ k + 1 = omega arith in
+      ap₂ (λ (a b : List ℕ). keccak_f (xor_block a b)) state (ap (λ (l : List (List ℕ)). get_or l k d) e ∙ chunk_at n m k d h) ∙ ap (absorbed m) next
 
   -- after the loop, the padded rest is the last block
-  pub finish : at ≤ length m → length m - at < 136
-      → squeezed (keccak_f (xor_block s (padded (take (length m - at) (drop at m))))) ≡ keccak256 m
-  finish within rest =
-      let all : take (length m - at) (drop at m) ≡ drop (136 * (at / 136)) m =
-      take_all (length m - at) (drop at m) (omega (arith, length-drop at m)) ∙ ap (λ (i : ℕ). drop i m) (sym whole) in
-      ap₂ (λ (a b : List ℕ). squeezed (keccak_f (xor_block a (padded b)))) state all
-      ∙ keccak256-is m (at / 136) (omega arith) (omega arith)
+  pub finish : (tail : List ℕ) → k ≡ length m / 136 → tail ≡ drop (length m / 136 * 136) m → squeezed (keccak_f (xor_block s (padded tail))) ≡ keccak256 m
+  finish tail e rest =
+      let whole : length m / 136 * 136 ≡ 136 * k = omega arith in
+      ap₂ (λ (a b : List ℕ). squeezed (keccak_f (xor_block a (padded b)))) state (rest ∙ ap (λ (n : ℕ). drop n m) whole)
+      ∙ keccak256-is m k (omega arith) (omega arith)

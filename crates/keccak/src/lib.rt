@@ -22,16 +22,13 @@ fn absorb(a: [u64; 25], block: &[u8]) -> [u64; 25]
 pub fn keccak256(message: &[u8]) -> [u8; 32]
     ensures { result ≡ keccak256 message.now }
 {
-    let mut s = [0u64; 25];
-    let mut at: usize = 0;
-    while message.len() - at >= RATE {
-        let next = absorb(s, &message[at..at + RATE]);
+    let (blocks, tail) = message.as_chunks::<RATE>();
+    let mut s = [0; 25];
+    for block in blocks {
+        let next = absorb(s, block);
         s = next;
-        at += RATE;
     }
-    let block = pad(&message[at..]);
-    let last = absorb(s, &block);
-    squeeze(last)
+    squeeze(absorb(s, &pad(tail)))
 }
 
 // For C and Rust programs that link the static library.

@@ -9,6 +9,7 @@ use std::{fs, io};
 // Reads until the input ends, the buffer is full or a read fails; the input's length, and at the buffer's own length there may be more.
 fn read_to_end(input: &mut impl Read, buf: &mut [u8]) -> io::Result<usize> {
     let mut n: usize = 0;
+    // kept: a turn goes on by as many bytes as the read gave
     while n < buf.len() {
         let more = input.read(&mut buf[n..])?;
         if more == 0 {

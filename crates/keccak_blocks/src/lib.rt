@@ -10,21 +10,16 @@ fn lane_at(b: &[u8], at: usize) -> u64
     requires { at + 8 ≤ length b.now }
     ensures { result ≡ lane_at b.now at }
 {
-    let b0 = octets::wide(b[at]);
-    let b1 = octets::wide(b[at + 1]);
-    let b2 = octets::wide(b[at + 2]);
-    let b3 = octets::wide(b[at + 3]);
-    let b4 = octets::wide(b[at + 4]);
-    let b5 = octets::wide(b[at + 5]);
-    let b6 = octets::wide(b[at + 6]);
-    let b7 = octets::wide(b[at + 7]);
-    b0 + b1 * 0x100
-        + b2 * 0x1_0000
-        + b3 * 0x100_0000
-        + b4 * 0x1_0000_0000
-        + b5 * 0x100_0000_0000
-        + b6 * 0x1_0000_0000_0000
-        + b7 * 0x100_0000_0000_0000
+    u64::from_le_bytes([
+        b[at],
+        b[at + 1],
+        b[at + 2],
+        b[at + 3],
+        b[at + 4],
+        b[at + 5],
+        b[at + 6],
+        b[at + 7],
+    ])
 }
 
 // The state with a block added into its first 17 lanes. C-12: a block is taken as its 17 lanes of eight bytes; its bytes one by one leave the same state
@@ -66,42 +61,10 @@ pub fn xor_block(a: [u64; 25], block: &[u8]) -> [u64; 25]
 pub fn squeeze(a: [u64; 25]) -> [u8; 32]
     ensures { result ≡ squeezed a }
 {
-    let a0 = a[0];
-    let a1 = a[1];
-    let a2 = a[2];
-    let a3 = a[3];
-    [
-        ((a0 >> 0) % 256) as u8,
-        ((a0 >> 8) % 256) as u8,
-        ((a0 >> 16) % 256) as u8,
-        ((a0 >> 24) % 256) as u8,
-        ((a0 >> 32) % 256) as u8,
-        ((a0 >> 40) % 256) as u8,
-        ((a0 >> 48) % 256) as u8,
-        ((a0 >> 56) % 256) as u8,
-        ((a1 >> 0) % 256) as u8,
-        ((a1 >> 8) % 256) as u8,
-        ((a1 >> 16) % 256) as u8,
-        ((a1 >> 24) % 256) as u8,
-        ((a1 >> 32) % 256) as u8,
-        ((a1 >> 40) % 256) as u8,
-        ((a1 >> 48) % 256) as u8,
-        ((a1 >> 56) % 256) as u8,
-        ((a2 >> 0) % 256) as u8,
-        ((a2 >> 8) % 256) as u8,
-        ((a2 >> 16) % 256) as u8,
-        ((a2 >> 24) % 256) as u8,
-        ((a2 >> 32) % 256) as u8,
-        ((a2 >> 40) % 256) as u8,
-        ((a2 >> 48) % 256) as u8,
-        ((a2 >> 56) % 256) as u8,
-        ((a3 >> 0) % 256) as u8,
-        ((a3 >> 8) % 256) as u8,
-        ((a3 >> 16) % 256) as u8,
-        ((a3 >> 24) % 256) as u8,
-        ((a3 >> 32) % 256) as u8,
-        ((a3 >> 40) % 256) as u8,
-        ((a3 >> 48) % 256) as u8,
-        ((a3 >> 56) % 256) as u8,
-    ]
+    let mut hash = [0; 32];
+    hash[0..8].copy_from_slice(&a[0].to_le_bytes());
+    hash[8..16].copy_from_slice(&a[1].to_le_bytes());
+    hash[16..24].copy_from_slice(&a[2].to_le_bytes());
+    hash[24..32].copy_from_slice(&a[3].to_le_bytes());
+    hash
 }

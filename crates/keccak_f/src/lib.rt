@@ -61,11 +61,9 @@ pub fn permute(a: [u64; 25]) -> [u64; 25]
     // copied once, so that a round reads its constant from memory that is already filled
     let constants = round_constants();
     let mut s = complemented(a);
-    let mut i: usize = 0;
-    while i < 24 {
-        let next = two_rounds(s, constants[i], constants[i + 1]);
+    for i in 0..12 {
+        let next = two_rounds(s, constants[2 * i], constants[2 * i + 1]);
         s = next;
-        i += 2;
     }
     complemented(s)
 }

@@ -12,13 +12,10 @@ pub fn pad(tail: &[u8]) -> [u8; RATE]
     requires { length tail.now < rate }
     ensures { result ≡ padded tail.now }
 {
-    let mut block = [0u8; RATE];
-    let mut i: usize = 0;
-    while i < tail.len() {
-        block[i] = tail[i];
-        i += 1;
-    }
-    block[i] = 0x01;
-    block[RATE - 1] = block[RATE - 1] | 0x80;
+    let n = tail.len();
+    let mut block = [0; RATE];
+    block[..n].copy_from_slice(tail);
+    block[n] = 0x01;
+    block[RATE - 1] |= 0x80;
     block
 }

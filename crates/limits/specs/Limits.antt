@@ -1,11 +1,9 @@
 -- Document 01's "Both sides of each line", P1 to P12: one claim about the definitions that the contracts cite.
-use Rattle.std.specs.Prelude.{ℕ, ◌+◌, ◌^◌, ◌≡◌, true, false, [], ◌∷◌, length, take, drop, get_or}
+use Rattle.std.specs.Prelude.{ℕ, ◌+◌, ◌^◌, ◌≡◌, true, false, [], ◌∷◌, None, length, take, drop, get_or}
 use Rattle.octets.specs.Octets.{Bytes}
 use Rattle.rlp.specs.Numbers.{uint_bytes}
 use Rattle.rlp.specs.Encoding.{encode, string, list}
 use Rattle.rlp.specs.Reading.{head, uint_of}
-use Rattle.rlp.specs.declared.Header.TheVariants.{Broken}
-use Rattle.rlp.specs.declared.Uint.TheVariants.{NotAnInteger}
 use Rattle.distance.specs.Distance.{in_bucket, number_of_distance}
 use Rattle.entry.specs.declared.Entry.{Entry}
 use Rattle.entry.specs.declared.EndpointProof.TheVariants.{At}
@@ -26,8 +24,8 @@ pub record Limits : Type 0 where
   -- P3 "1,024 is 82 04 00"
   pub p3 : encode (string (uint_bytes 1024)) ≡ 0x82 ∷ 0x04 ∷ 0x00 ∷ []
   -- P4 "00 and 81 7f are refused as integers": the first as an integer, the second by its header; as a packet's item 10 and 9
-  pub p4_00 : uint_of (0x00 ∷ []) ≡ NotAnInteger
-  pub p4_81_7f : head (0x81 ∷ 0x7f ∷ []) ≡ Broken
+  pub p4_00 : uint_of (0x00 ∷ []) ≡ None
+  pub p4_81_7f : head (0x81 ∷ 0x7f ∷ []) ≡ None
   pub p4_00_read : (g : Bytes) → get_or g 97 0 ≡ 5 → drop 98 g ≡ 0xc1 ∷ 0x00 ∷ [] → packet_in g ≡ Refused 10
   pub p4_81_7f_read : (g : Bytes) → get_or g 97 0 ≡ 5 → drop 98 g ≡ 0xc2 ∷ 0x81 ∷ 0x7f ∷ [] → packet_in g ≡ Refused 9
   -- P5 "a string of 55 bytes starts b7, of 56 starts b8 38"

@@ -1,7 +1,7 @@
 -- What the functions that take a line make is what the steps say. Assumes nothing.
 use Prim.Native.Nat.{ℕ, ◌-◌, ◌≤◌}
 use mathlib.Core.Path.{◌≡◌, refl, sym, ap, ◌∙◌}
-use mathlib.Core.Bool.{Bool, true, false, cond, ◌&&◌, ◌||◌}
+use mathlib.Core.Bool.{Bool, true, false}
 use mathlib.Core.List.{◌++◌}
 use native.Mathlib.Omega.{arith}
 use borrow.Author.Tests.{eqb-true}
@@ -9,16 +9,13 @@ use lib.Dec.{eqb}
 use lib.ListN.{length, take, drop}
 use lib.Seq.{length-take-le}
 use Rattle.octets.specs.Octets.{Bytes, store, same_bytes}
-use Rattle.lists.specs.Lists.{any}
 use Rattle.lists.proofs.Laws.{by_test}
 use Rattle.node.specs.declared.UnixSeconds.{UnixSeconds}
 use Rattle.bucket_model.specs.Contents.{Contents}
-use Rattle.bucket_model.specs.Rules.{is_verified}
 use Rattle.bucket_lookup.specs.declared.Lookup.{Lookup}
-use Rattle.bucket_lookup.specs.Steps.{found, in_entries}
 use Rattle.packet.specs.declared.Packet.{Packet}
 use Rattle.packet.specs.declared.Packet.TheVariants as packet
-use Rattle.call_history.specs.Model.{Call, datagram, ping_sent, sweep}
+use Rattle.call_history.specs.Model.{Call, datagram, ping_sent}
 use Rattle.call_history.specs.Words.{is_pong}
 use Rattle.call_model.specs.Calls.{bucket_for, answer_on, bytes_after}
 use Rattle.call_model.specs.Reading.{packet_reading, reading}
@@ -28,8 +25,6 @@ use Rattle.call_datagram.proofs.Datagram.{front-passed, whole, packet-read}
 use Rattle.call_datagram.proofs.Answered.{answer-number}
 use Rattle.log_lines.specs.Lines as lines
 use Rattle.log_line.specs.declared.Line.{Line}
-use Rattle.log_line.specs.declared.Line.TheVariants.{Own}
-use Rattle.log_line.specs.Fields.{said}
 use Rattle.log_line.specs.Forms.{line_of}
 use Rattle.log_state.specs.declared.Replay.{Replay}
 use Rattle.log_state.specs.State.{size_of, state_of}

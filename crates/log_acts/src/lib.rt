@@ -13,7 +13,6 @@ ghost use Rattle.log_replay.specs.Replay.{Reached};
 ghost use Rattle.log_acts.specs.Acts.{is_pong_outcome, idle, heard_acts, pinged_acts, swept_acts, acts_by};
 ghost use Rattle.log_acts.specs.ActedLine.{ActedLine};
 
-use bucket_entry::both;
 use bucket_lookup::Lookup;
 use call_answer::{Outcome, Received};
 use log_line::{Line, decode_field};
@@ -47,28 +46,17 @@ pub fn idle(number: u8) -> Acted
     }
 }
 
+// kept: a public function.
 pub fn either(a: bool, b: bool) -> bool
     ensures { result ≡ (a || b) }
 {
-    if a {
-        return true;
-    }
-    b
+    a || b
 }
 
 fn is_pong(received: Received) -> bool
     ensures { result ≡ is_pong_outcome received.outcome }
 {
-    let outcome = received.outcome;
-    match outcome {
-        Outcome::Refused(_) => false,
-        Outcome::Ping(_, _) => false,
-        Outcome::Pong(_, _) => true,
-        Outcome::FindNode(_) => false,
-        Outcome::Neighbors(_) => false,
-        Outcome::EnrRequest(_) => false,
-        Outcome::EnrResponse(_) => false,
-    }
+    matches!(received.outcome, Outcome::Pong(_, _))
 }
 
 // A datagram of the node, where it stood at `place`.
@@ -83,11 +71,11 @@ fn heard(
 {
     let number = call_answer::number(received);
     let verified = !place.not_verified(address, port, clock);
-    let tail = either(is_pong(received), verified);
+    let tail = is_pong(received) || verified;
     Acted {
         number,
         named: true,
-        moves: both(number == 0, both(place.has_entry(), tail)),
+        moves: number == 0 && place.has_entry() && tail,
         pings: false,
         overdue: false,
         looks: true,
@@ -144,11 +132,11 @@ fn rx(
     ensures acted { result ≡ acts_by key.now place (answer_on reading table.old (model.datagram clock unix (said line.now address) port (said line.now signer) (said line.now datagram))) (model.datagram clock unix (said line.now address) port (said line.now signer) (said line.now datagram)) }
     ensures bytes { table.new ≡ bytes_after reading table.old (model.datagram clock unix (said line.now address) port (said line.now signer) (said line.now datagram)) }
 {
-    let mut from = [0u8; 1500];
+    let mut from = [0; 1500];
     let a = decode_field(line, address, &mut from);
-    let mut by = [0u8; 1500];
+    let mut by = [0; 1500];
     let k = decode_field(line, signer, &mut by);
-    let mut bytes = [0u8; 1500];
+    let mut bytes = [0; 1500];
     let n = decode_field(line, datagram, &mut bytes);
     hear(
         table,
@@ -194,13 +182,13 @@ fn sent(
     ensures acted { (place : Lookup) → result ≡ acts_by key.now place (answer_on reading table.old (model.ping_sent clock (said line.now target) (said line.now address) udp tcp (said line.now hash))) (model.ping_sent clock (said line.now target) (said line.now address) udp tcp (said line.now hash)) }
     ensures bytes { table.new ≡ bytes_after reading table.old (model.ping_sent clock (said line.now target) (said line.now address) udp tcp (said line.now hash)) }
 {
-    let mut node = [0u8; 1500];
+    let mut node = [0; 1500];
     let k = decode_field(line, target, &mut node);
-    let mut to = [0u8; 1500];
+    let mut to = [0; 1500];
     let a = decode_field(line, address, &mut to);
-    let mut bytes = [0u8; 1500];
+    let mut bytes = [0; 1500];
     let n = decode_field(line, hash, &mut bytes);
-    let number = call_ping_sent::ping_sent_on_sound(
+    let number = numbers::answer_number(call_ping_sent::ping_sent_on_sound(
         table,
         MonotonicMillis(clock),
         &node[0..k],
@@ -208,7 +196,7 @@ fn sent(
         udp,
         tcp,
         &bytes[0..n],
-    );
+    ));
     if octets::same_bytes(key, &node[0..k]) {
         return pinged(number);
     }
@@ -222,7 +210,7 @@ fn sweep(table: &mut [u8], place: Lookup, clock: u64) -> Acted
     ensures bytes { table.new ≡ bytes_after reading table.old (model.sweep clock) }
 {
     let time = MonotonicMillis(clock);
-    let number = call_sweep::sweep_on_sound(table, time);
+    let number = numbers::answer_number(call_sweep::sweep_on_sound(table, time));
     Acted {
         number,
         named: false,
@@ -253,9 +241,10 @@ pub fn act(memory: &mut [u8], key: &[u8], replay: Replay, place: Lookup, line: &
             key: owner,
         } => {
             let made = log_own::take_own(memory, replay, line, buckets, owner);
-            let replay = made.replay;
-            let acted = idle(made.number);
-            return Taken { replay, acted };
+            return Taken {
+                replay: made.replay,
+                acted: idle(made.number),
+            };
         }
         Line::Rx {
             now,

@@ -80,7 +80,7 @@ pub fn sent(
     let a = decode_field(line, address, &mut to);
     let mut bytes = [0u8; 1500];
     let n = decode_field(line, hash, &mut bytes);
-    let number = call_ping_sent::ping_sent_on_sound(
+    let answer = call_ping_sent::ping_sent_on_sound(
         table,
         MonotonicMillis(clock),
         &node[0..k],
@@ -89,7 +89,7 @@ pub fn sent(
         tcp,
         &bytes[0..n],
     );
-    put_number(out, number)
+    put_number(out, numbers::answer_number(answer))
 }
 
 // `sweep`: milliseconds.
@@ -101,6 +101,6 @@ pub fn sweep(table: &mut [u8], out: &mut [u8], clock: u64) -> usize
     ensures bytes { table.new ≡ bytes_after reading table.old (model.sweep clock) }
     ensures room { result ≤ answer_room }
 {
-    let number = call_sweep::sweep_on_sound(table, MonotonicMillis(clock));
-    put_number(out, number)
+    let answer = call_sweep::sweep_on_sound(table, MonotonicMillis(clock));
+    put_number(out, numbers::answer_number(answer))
 }

@@ -1,14 +1,14 @@
 -- Laws of the fields that were found: they decide a line's form and what it says. Assumes nothing.
-use Prim.Native.Nat.{ℕ, ◌+◌, ◌≤◌, ◌<◌}
+use Prim.Native.Nat.{ℕ, suc, ◌+◌, ◌-◌, ◌≤◌, ◌<◌}
 use mathlib.Core.Path.{◌≡◌, sym, ap, ◌∙◌}
 use mathlib.Core.Bool.{Bool, true, false}
-use mathlib.Core.List.{List}
+use mathlib.Core.List.{List, [], ◌∷◌}
 use native.Mathlib.Omega.{arith}
 use borrow.Author.Tests.{lt-ltb, le-ltb}
-use lib.ListN.{length, take, drop}
-use lib.Seq.{length-take-le}
+use lib.ListN.{length, take, drop, length-drop}
 use Rattle.octets.specs.Octets.{Bytes, same_bytes}
 use Rattle.log_lines.specs.Lines.{limit}
+use Rattle.packet_span.specs.declared.Span.{Span}
 use Rattle.log_line.specs.declared.Fields.{Fields}
 use Rattle.log_line.specs.declared.Kind.{Kind}
 use Rattle.log_line.specs.declared.Line.TheVariants.{Unreadable}
@@ -28,21 +28,36 @@ module _ (line : Bytes) (found : Fields) (e : found ≡ counted (fields line)) w
   unfolding counted
   found-count = ap (λ (r : Fields). r.count) e
 
-  -- the form of n kinds
-  module _ (word : Bytes) (kinds : List Kind) (n : ℕ) (hk : n ≤ length kinds) where
-    pub form-none : (found.count ≡ n + 1 → ⊥) → of_form line word (take n kinds) (fields line) ≡ false
-    form-none ne = form-count line word (take n kinds) (fields line) (λ c. ne (omega (arith, found-count, length-take-le n kinds hk)))
+  module _ (word : Bytes) (kinds : List Kind) where
+    pub form-none : (found.count ≡ length kinds + 1 → ⊥) → of_form line word kinds (fields line) ≡ false
+    form-none ne = form-count line word kinds (fields line) (λ c. ne (omega (arith, found-count)))
 
-    pub form-other : same_bytes (text line (field found.spans 0)) word ≡ false → of_form line word (take n kinds) (fields line) ≡ false
-    form-other w = form-word line word (take n kinds) (fields line) (rw (found-field 0 (omega arith)) at w)
+    pub form-other : same_bytes (text line (field found.spans 0)) word ≡ false → of_form line word kinds (fields line) ≡ false
+    form-other w = form-word line word kinds (fields line) (rw (found-field 0 (omega arith)) at w)
 
-    pub form-is : n ≤ 6 → found.count ≡ n + 1 → same_bytes (text line (field found.spans 0)) word ≡ true
-        → each line (take n kinds) (take n (drop 1 found.spans)) ≡ of_form line word (take n kinds) (fields line)
-    form-is h c w =
-        let size : length (fields line) ≡ n + 1 = omega (arith, found-count) in
-        ap (λ (r : Fields). each line (take n kinds) (take n (drop 1 r.spans))) e
-        ∙ ap (each line (take n kinds)) (counted_rest (fields line) n size h)
-        ∙ sym (form-each line word (take n kinds) (fields line) (omega arith) (rw (found-field 0 (omega arith)) at w))
+    module _ (h : length kinds ≤ 6) (c : found.count ≡ length kinds + 1) where
+      -- the fields after the first
+      pub found-rest : take (found.count - 1) (drop 1 found.spans) ≡ drop 1 (fields line)
+      found-rest =
+          let n : found.count - 1 ≡ length kinds = omega arith in
+          ap (λ (k : ℕ). take k (drop 1 found.spans)) n
+          ∙ ap (λ (r : Fields). take (length kinds) (drop 1 r.spans)) e
+          ∙ counted_rest (fields line) (length kinds) (omega (arith, found-count)) h
+
+      pub rest-size : length (take (found.count - 1) (drop 1 found.spans)) ≡ length kinds
+      rest-size = omega (arith, ap length found-rest, length-drop 1 (fields line), found-count)
+
+      pub rest-within : Within line (take (found.count - 1) (drop 1 found.spans))
+      rest-within = rw found-rest (within-rest (fields line) (fields_within line))
+        where
+          within-rest : (fs : List Span) → Within line fs → Within line (drop 1 fs)
+          within-rest [] w i = w i
+          within-rest (f ∷ fs) w i = w (suc i)
+
+      pub form-is : same_bytes (text line (field found.spans 0)) word ≡ true → each line kinds (take (found.count - 1) (drop 1 found.spans)) ≡ of_form line word kinds (fields line)
+      form-is w =
+          ap (each line kinds) found-rest
+          ∙ sym (form-each line word kinds (fields line) (omega (arith, found-count)) (rw (found-field 0 (omega arith)) at w))
 
 -- ---- what the line says
 

@@ -7,8 +7,8 @@ use lib.Dec.{ltb}
 use lib.ListN.{length}
 use Rattle.octets.specs.Octets.{Bytes}
 use Rattle.lists.proofs.Laws.{by_test}
-use Rattle.text.specs.declared.Decimal.{Decimal}
-use Rattle.text.specs.declared.Decimal.TheVariants.{Value, NotDecimal}
+use Rattle.std.specs.Prelude.{Option, Some, None}
+use Rattle.std.specs.Option.{unwrap_or}
 use Rattle.text.specs.Decimals.{decimal_of}
 use Rattle.text.proofs.Decimals.{decimal-sound}
 use Rattle.log_lines.specs.Lines.{limit}
@@ -16,7 +16,7 @@ use Rattle.packet_span.specs.declared.Span.{Span}
 use Rattle.log_line.specs.declared.Line.{Line}
 use Rattle.log_line.specs.declared.Line.TheVariants.{Own, Rx, Sent, Sweep, Unreadable}
 use Rattle.log_line.specs.Fields.{fields, text, field}
-use Rattle.log_line.specs.Forms.{of_form, own_word, own_kinds, rx_word, rx_kinds, sent_word, sent_kinds, sweep_word, sweep_kinds, value_of, number, own_line, rx_line, sent_line, sweep_line, formed, line_of}
+use Rattle.log_line.specs.Forms.{of_form, own_word, own_kinds, rx_word, rx_kinds, sent_word, sent_kinds, sweep_word, sweep_kinds, number, own_line, rx_line, sent_line, sweep_line, formed, line_of}
 
 -- milliseconds and Unix seconds of 64 bits, ports of 16
 abbrev pub Numbers : Line → Type 0
@@ -26,13 +26,13 @@ Numbers (Sent now key address udp tcp hash) = (now < 2 ^ 64) × (udp < 2 ^ 16) �
 Numbers (Sweep now) = now < 2 ^ 64
 Numbers Unreadable = Unit {0}
 
-number-most : (max : ℕ) (line : Bytes) (f : Span) → number max line f ≤ max
+pub number-most : (max : ℕ) (line : Bytes) (f : Span) → number max line f ≤ max
 unfolding number
 number-most max line f = by_value (decimal_of max (text line f)) refl
   where
-    by_value : (d : Decimal) → decimal_of max (text line f) ≡ d → value_of d ≤ max
-    by_value (Value n) e = (decimal-sound max (text line f) n e).1
-    by_value NotDecimal e = omega arith
+    by_value : (d : Option ℕ) → decimal_of max (text line f) ≡ d → unwrap_or d 0 ≤ max
+    by_value (Some n) e = (decimal-sound max (text line f) n e).1
+    by_value None e = omega arith
 
 module _ (line : Bytes) where
   of-64 : (f : Span) → number (2 ^ 64 - 1) line f < 2 ^ 64

@@ -1,48 +1,33 @@
 -- Laws of forms: field by field, and what a line of a form says. Assumes nothing.
-use Prim.Native.Nat.{ℕ, suc, ◌+◌, ◌≤◌, ◌<◌}
-use mathlib.Core.Path.{◌≡◌, refl, sym, ap, ◌∙◌}
+use Prim.Native.Nat.{ℕ, suc, ◌+◌, ◌<◌}
+use mathlib.Core.Path.{◌≡◌, refl, sym, ap, ap₂, ◌∙◌}
 use mathlib.Core.Bool.{Bool, true, false, ◌&&◌}
 use mathlib.Core.List.{List, [], ◌∷◌}
-use native.Mathlib.Numerals.{add-one}
+use mathlib.Core.Logic.{◌⊎◌, ⊎_elim}
 use native.Mathlib.Omega.{arith}
-use lib.ListN.{length, get_or, take, drop, drop_of_length-le, length-drop}
-use lib.Seq.{drop-cons, get_or-take, get_or-drop, length-take-le}
+use lib.ListN.{length, drop}
 use Rattle.octets.specs.Octets.{Bytes, same_bytes}
-use Rattle.text.specs.declared.Decimal.TheVariants.{Value, NotDecimal}
-use Rattle.text.specs.Decimals.{decimal_of}
-use Rattle.text.proofs.Decimals.{decimal-sound}
 use Rattle.packet_span.specs.declared.Span.{Span}
 use Rattle.log_line.specs.declared.Kind.{Kind}
-use Rattle.log_line.specs.declared.Kind.TheVariants.{Number}
-use Rattle.log_line.specs.Fields.{span, text, field}
-use Rattle.log_line.specs.Forms.{has, each, of_form, number, own_line, rx_line, sent_line, sweep_line}
+use Rattle.log_line.specs.Fields.{text, field}
+use Rattle.log_line.specs.Forms.{has, each, of_form, own_line, rx_line, sent_line, sweep_line}
 
 -- ---- field by field
 
--- the kinds and fields from i on, of n kinds and of the n spans after the first
-abbrev pub each_from : Bytes → List Kind → List Span → ℕ → ℕ → Bool
-each_from line kinds spans n i = each line (drop i (take n kinds)) (drop i (take n (drop 1 spans)))
+-- the kinds and fields that are left, after one of each
+module _ (line : Bytes) {ks ls : List Kind} {k : Kind} {fs gs : List Span} {f : Span} {e : Bool} (p : ks ≡ k ∷ ls) (q : fs ≡ f ∷ gs) (all : each line ks fs ≡ e) where
+  pub each-on : has k (text line f) ≡ true → each line ls gs ≡ e
+  each-on t = sym (ap₂ (each line) p q ∙ rw t) ∙ all
 
-module _ (line : Bytes) (kinds : List Kind) (spans : List Span) (n : ℕ) (hk : n ≤ length kinds) (hs : n + 1 ≤ length spans) where
-  fields-size : length (take n (drop 1 spans)) ≡ n
-  fields-size = length-take-le n (drop 1 spans) (omega (arith, length-drop 1 spans))
+  pub each-off : has k (text line f) ≡ false → false ≡ e
+  each-off t = sym (ap₂ (each line) p q ∙ rw t) ∙ all
 
-  module _ (i : ℕ) (h : i < n) where
-    each_next : each_from line kinds spans n i ≡ (has (get_or kinds i (Number 0)) (text line (field spans (i + 1))) && each_from line kinds spans n (i + 1))
-    each_next =
-        let k : get_or (take n kinds) i (Number 0) ≡ get_or kinds i (Number 0) = get_or-take n kinds i (Number 0) h in
-        let o : 1 + i ≡ suc i = omega arith in
-        let s : field (take n (drop 1 spans)) i ≡ field spans (suc i) = get_or-take n (drop 1 spans) i (span 0 0) h ∙ get_or-drop 1 spans i (span 0 0) ∙ ap (field spans) o in
-        rw (add-one i, drop-cons (take n kinds) i (Number 0) (omega (arith, length-take-le n kinds hk)), drop-cons (take n (drop 1 spans)) i (span 0 0) (omega (arith, fields-size)), k, s)
-
-    pub each_on : has (get_or kinds i (Number 0)) (text line (field spans (i + 1))) ≡ true → each_from line kinds spans n (i + 1) ≡ each_from line kinds spans n i
-    each_on e = sym (each_next ∙ rw e)
-
-    pub each-off : has (get_or kinds i (Number 0)) (text line (field spans (i + 1))) ≡ false → each_from line kinds spans n i ≡ false
-    each-off e = each_next ∙ rw e
-
-  pub each-end : (i : ℕ) → n ≤ i → each_from line kinds spans n i ≡ true
-  each-end i h = rw (drop_of_length-le (take n kinds) {i = i} (omega (arith, length-take-le n kinds hk)), drop_of_length-le (take n (drop 1 spans)) {i = i} (omega (arith, fields-size)))
+-- none is left of either, where there are as many
+pub each-end : (line : Bytes) (ks : List Kind) (fs : List Span) {e : Bool} → length fs ≡ length ks → (ks ≡ []) ⊎ (fs ≡ []) → each line ks fs ≡ e → true ≡ e
+each-end line [] [] n z all = all
+each-end line [] (f ∷ fs) n z all = absurd (omega arith)
+each-end line (k ∷ ks) [] n z all = absurd (omega arith)
+each-end line (k ∷ ks) (f ∷ fs) n z all = ⊎_elim (λ p. absurd (omega (arith, ap length p))) (λ q. absurd (omega (arith, ap length q))) z
 
 -- ---- the word and the number of fields
 
@@ -79,14 +64,6 @@ module _ (line word : Bytes) (ks : List Kind) (fs : List Span) where
       by-fields (f ∷ fs) p e = rw e
 
 -- ---- what it says
-
-pub number_value : (max : ℕ) (line : Bytes) (f : Span) (n : ℕ) → decimal_of max (text line f) ≡ Value n → (n ≡ number max line f) × (n ≤ max)
-unfolding number
-number_value max line f n e = (sym (rw e), (decimal-sound max (text line f) n e).1)
-
-pub number_none : (max : ℕ) (line : Bytes) (f : Span) → decimal_of max (text line f) ≡ NotDecimal → 0 ≡ number max line f
-unfolding number
-number_none max line f e = sym (rw e)
 
 -- a line of a form goes by its first seven fields
 module _ (line : Bytes) (fs gs : List Span) (same : (i : ℕ) → i < 7 → field fs i ≡ field gs i) where

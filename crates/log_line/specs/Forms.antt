@@ -1,11 +1,10 @@
 -- The four forms of a line. Document 01, "Log and printout": "`own`, B, key. `rx`, ms, Unix seconds, address, port, signer or `-`, datagram.
 -- `sent`, ms, key, address, UDP, TCP, hash. `sweep`, ms."
-use Rattle.std.specs.Prelude.{ℕ, ◌+◌, ◌-◌, ◌^◌, ◌≤◌, ◌≡◌, Bool, true, false, cond, ◌&&◌, ◌||◌, List, [], ◌∷◌, ltb, length}
+use Rattle.std.specs.Prelude.{ℕ, ◌+◌, ◌-◌, ◌^◌, ◌≤◌, ◌≡◌, Bool, true, false, cond, ◌&&◌, ◌||◌, List, [], ◌∷◌, ltb, length, is_some}
+use Rattle.std.specs.Option.{unwrap_or}
 use Rattle.octets.specs.Octets.{Bytes, same_bytes}
 use Rattle.text.specs.Decimals.{decimal_of}
 use Rattle.text.specs.Hex.{is_hex, hex, unhex}
-use Rattle.text.specs.declared.Decimal.{Decimal}
-use Rattle.text.specs.declared.Decimal.TheVariants.{Value, NotDecimal}
 use Rattle.log_lines.specs.Lines.{limit, Held, whole, too_long}
 use Rattle.log_line.specs.Fields.{span, fields, text, field}
 use Rattle.packet_span.specs.declared.Span.{Span}
@@ -16,16 +15,12 @@ use Rattle.log_line.specs.declared.Line.TheVariants.{Own, Rx, Sent, Sweep, Unrea
 
 -- ---- what a field must be
 
-abbrev pub is_value : Decimal → Bool
-is_value (Value n) = true
-is_value NotDecimal = false
-
 -- `-`
 abbrev pub dash : Bytes
 dash = 0x2d ∷ []
 
 unfoldable pub has : Kind → Bytes → Bool
-has (Number max) f = is_value (decimal_of max f)
+has (Number max) f = is_some (decimal_of max f)
 has Hex f = is_hex f
 has HexOrDash f = is_hex f || same_bytes f dash
 
@@ -80,13 +75,9 @@ sweep_kinds = any ∷ []
 
 -- ---- what they say
 
-abbrev pub value_of : Decimal → ℕ
-value_of (Value n) = n
-value_of NotDecimal = 0
-
 -- the number that field i spells, of at most max
 unfoldable pub number : ℕ → Bytes → Span → ℕ
-number max line f = value_of (decimal_of max (text line f))
+number max line f = unwrap_or (decimal_of max (text line f)) 0
 
 -- the span of a signer: empty for `-`
 unfoldable pub signer : Bytes → Span → Span

@@ -10,7 +10,6 @@ ghost use Rattle.log_line.specs.Forms as form;
 
 use octets::same_bytes;
 use packet_span::Span;
-use text::Decimal;
 
 // What a line says. Spans are of hex digits.
 #[derive(Clone, Copy)]
@@ -61,26 +60,18 @@ struct Fields {
 
 impl Fields {
     // One field more, which ends before index `end`.
-    fn add(self, start: usize, end: usize) -> Self
+    fn add(mut self, start: usize, end: usize) -> Self
         requires { (start ≤ end) × (self.count < 2 ^ 63) }
         ensures { result ≡ spec.added self (span start (end - start)) }
     {
-        let n = self.count;
-        let mut spans = self.spans;
-        if n < 7 {
-            spans[n] = Span {
+        if self.count < 7 {
+            self.spans[self.count] = Span {
                 start,
                 len: end - start,
             };
-            return Fields {
-                count: n + 1,
-                spans,
-            };
         }
-        Fields {
-            count: n + 1,
-            spans,
-        }
+        self.count += 1;
+        self
     }
 }
 
@@ -93,15 +84,13 @@ fn split(line: &[u8]) -> Fields
         spans: [Span { start: 0, len: 0 }; 7],
     };
     let mut start = 0;
-    let mut i = 0;
-    while i < line.len() {
-        if line[i] == 9 {
+    for (i, b) in line.iter().enumerate() {
+        if *b == b'\t' {
             found = found.add(start, i);
             start = i + 1;
         }
-        i += 1;
     }
-    found.add(start, i)
+    found.add(start, line.len())
 }
 
 // The bytes of a field.
@@ -109,9 +98,7 @@ pub fn text_of(line: &[u8], f: Span) -> &[u8]
     requires { f.start + f.len ≤ length line.now }
     ensures { result.now ≡ spec.text line.now f }
 {
-    let start = f.start;
-    let end = start + f.len;
-    &line[start..end]
+    &line[f.start..f.start + f.len]
 }
 
 // Writes the bytes that a field of a line spells to the start of `buf`, and returns how many there are.
@@ -124,62 +111,40 @@ pub fn decode_field(line: &[u8], field: Span, buf: &mut [u8]) -> usize
     text::put_unhex(buf, 0, text_of(line, field))
 }
 
-fn is_value(d: Decimal) -> bool
-    ensures { result ≡ form.is_value d }
-{
-    match d {
-        Decimal::Value(_) => true,
-        Decimal::NotDecimal => false,
-    }
-}
-
 // Whether a field is of a kind.
 fn has(kind: Kind, s: &[u8]) -> bool
     ensures { result ≡ form.has kind s.now }
 {
     match kind {
-        Kind::Number(max) => is_value(text::read_decimal(s, max)),
+        Kind::Number(max) => text::read_decimal(s, max).is_some(),
         Kind::Hex => text::is_hex(s),
-        Kind::HexOrDash => {
-            if text::is_hex(s) {
-                return true;
-            }
-            same_bytes(s, b"-")
-        }
+        Kind::HexOrDash => text::is_hex(s) || same_bytes(s, b"-"),
     }
 }
 
-// Whether the fields after the first are of the first `n` kinds.
-fn each(line: &[u8], spans: [Span; 7], kinds: [Kind; 6], n: usize) -> bool
-    requires { (n ≤ 6) × Within line.now spans }
-    ensures { result ≡ form.each line.now (take n kinds) (take n (drop 1 spans)) }
+// Whether fields are of these kinds, one for one.
+fn each(line: &[u8], spans: &[Span], kinds: &[Kind]) -> bool
+    requires { (length spans.now ≡ length kinds.now) × Within line.now spans.now }
+    ensures { result ≡ form.each line.now kinds.now spans.now }
 {
-    let mut i = 0;
-    while i < n {
-        let kind = kinds[i];
-        let f = spans[i + 1];
-        if !has(kind, text_of(line, f)) {
+    for (kind, f) in kinds.iter().zip(spans) {
+        if !has(*kind, text_of(line, *f)) {
             return false;
         }
-        i += 1;
     }
     true
 }
 
-// Whether a line is of a form: a word, and then fields of the first `n` kinds.
-fn of_form(line: &[u8], found: Fields, word: &[u8], kinds: [Kind; 6], n: usize) -> bool
-    requires { (n ≤ 6) × (found ≡ counted (fields line.now)) }
-    ensures { result ≡ form.of_form line.now word.now (take n kinds) (fields line.now) }
+// Whether a line is of a form: a word, and then fields of these kinds.
+fn of_form(line: &[u8], found: Fields, word: &[u8], kinds: &[Kind]) -> bool
+    requires { (length kinds.now ≤ 6) × (found ≡ counted (fields line.now)) }
+    ensures { result ≡ form.of_form line.now word.now kinds.now (fields line.now) }
 {
-    let spans = found.spans;
-    if found.count != n + 1 {
+    if found.count != kinds.len() + 1 {
         return false;
     }
-    let first = spans[0];
-    if !same_bytes(text_of(line, first), word) {
-        return false;
-    }
-    each(line, spans, kinds, n)
+    same_bytes(text_of(line, found.spans[0]), word)
+        && each(line, &found.spans[1..found.count], kinds)
 }
 
 // The number that a field spells, of at most `max`.
@@ -188,10 +153,7 @@ fn number(line: &[u8], f: Span, max: u64) -> u64
     ensures number { result ≡ form.number max line.now f }
     ensures bound { result ≤ max }
 {
-    let Decimal::Value(n) = text::read_decimal(text_of(line, f), max) else {
-        return 0;
-    };
-    n
+    text::read_decimal(text_of(line, f), max).unwrap_or(0)
 }
 
 // The span of a signer: empty for `-`.
@@ -286,16 +248,16 @@ pub fn read_line(line: &[u8]) -> Line
     let port = Kind::Number(MAX16);
     let hex = Kind::Hex;
     let dash = Kind::HexOrDash;
-    if of_form(line, found, b"own", [any, hex, hex, hex, hex, hex], 2) {
+    if of_form(line, found, b"own", &[any, hex]) {
         return own(line, spans);
     }
-    if of_form(line, found, b"rx", [any, any, hex, port, dash, hex], 6) {
+    if of_form(line, found, b"rx", &[any, any, hex, port, dash, hex]) {
         return rx(line, spans);
     }
-    if of_form(line, found, b"sent", [any, hex, hex, port, port, hex], 6) {
+    if of_form(line, found, b"sent", &[any, hex, hex, port, port, hex]) {
         return sent(line, spans);
     }
-    if of_form(line, found, b"sweep", [any, hex, hex, hex, hex, hex], 1) {
+    if of_form(line, found, b"sweep", &[any]) {
         return sweep(line, spans);
     }
     Line::Unreadable

@@ -78,7 +78,7 @@ pub fn next_line(buffer: &mut [u8], begun: Begun, chunk: &[u8], at: usize) -> St
     ensures step { result ≡ step_of begun chunk.now at }
     ensures bytes { buffer.new ≡ buffer_after buffer.old begun chunk.now at }
 {
-    let end = find(chunk, at, 10);
+    let end = find(chunk, at, b'\n');
     let more = add_piece(buffer, begun, &chunk[at..end]);
     if end == chunk.len() {
         return Step::More(more);

@@ -2,6 +2,7 @@
 #![tactic(auto)]
 
 ghost use Rattle.std.specs.Prelude.{◌≡◌, cond, ◌+◌, ◌≤◌, eqb, length};
+ghost use Rattle.numbers.specs.Numbers.{answer_number};
 ghost use Rattle.octets.specs.Octets.{store};
 ghost use Rattle.table.specs.Init.{fresh_table};
 ghost use Rattle.log_line.specs.Fields.{said};
@@ -13,19 +14,17 @@ use bucket::Bucket;
 use log_answer::put_number;
 use log_line::decode_field;
 use log_state::{Replay, Stepped};
+use numbers::Refusal;
 use packet_span::Span;
 
-// The first `own`: a fresh table, or the answer number and no byte is written.
-fn make(memory: &mut [u8], key: &[u8], buckets: u64) -> u8
+// The first `own`: a fresh table. Refused with 1 or 5, no byte is written.
+fn make(memory: &mut [u8], key: &[u8], buckets: u64) -> Result<(), Refusal>
     requires { 46304 ≤ length memory.old }
-    ensures number { result ≡ own_number buckets key.now }
-    ensures bytes { memory.new ≡ cond (eqb result 0) (store memory.old 0 (fresh_table key.now buckets)) memory.old }
+    ensures number { answer_number result ≡ own_number buckets key.now }
+    ensures bytes { memory.new ≡ cond (eqb (answer_number result) 0) (store memory.old 0 (fresh_table key.now buckets)) memory.old }
 {
-    if buckets < 1 {
-        return numbers::UNSOUND;
-    }
-    if 16 < buckets {
-        return numbers::UNSOUND;
+    if buckets < 1 || 16 < buckets {
+        return Err(Refusal::Unsound);
     }
     let count = buckets as usize;
     let size = table::HEADER_SIZE + count * Bucket::SIZE;
@@ -50,9 +49,9 @@ pub fn take_own(memory: &mut [u8], replay: Replay, line: &[u8], buckets: u64, ke
             number: numbers::UNREADABLE,
         };
     }
-    let mut bytes = [0u8; 1500];
+    let mut bytes = [0; 1500];
     let n = decode_field(line, key, &mut bytes);
-    let number = make(memory, &bytes[0..n], buckets);
+    let number = numbers::answer_number(make(memory, &bytes[0..n], buckets));
     let count = replay.count;
     if number == 0 {
         return Made {
@@ -82,7 +81,9 @@ pub fn own(
     ensures { Answered (own_after (state_of replay memory.old) buckets (said line.now key)) (number_row (own_answer (state_of replay memory.old) buckets (said line.now key))) memory.old out.old result memory.new out.new }
 {
     let made = take_own(memory, replay, line, buckets, key);
-    let replay = made.replay;
     let len = put_number(out, made.number);
-    Stepped { replay, len }
+    Stepped {
+        replay: made.replay,
+        len,
+    }
 }

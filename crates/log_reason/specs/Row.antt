@@ -1,5 +1,5 @@
 -- What is told of a key, and its row (document 02, C-17): "the reason as one line, fields parted by tabs".
-use Rattle.std.specs.Prelude.{ℕ, Bool, cond, ◌&&◌, List, [], ◌∷◌, eqb, length}
+use Rattle.std.specs.Prelude.{Bool, cond, ◌&&◌, [], ◌∷◌, eqb, length, Option, Some, None}
 use Rattle.octets.specs.Octets.{Bytes}
 use Rattle.text.specs.Hex.{is_hex, unhex}
 use Rattle.text.specs.Decimals.{decimal}
@@ -7,16 +7,14 @@ use Rattle.text.specs.Rows.{row}
 use Rattle.log_history.specs.declared.Reason.{Reason}
 use Rattle.log_history.specs.declared.Reason.TheVariants.{Seated, Waiting, Ping, Proof, Never, Unnamed}
 use Rattle.log_history.specs.Why.{why}
-use Rattle.log_reason.specs.declared.Why.{Why}
-use Rattle.log_reason.specs.declared.Why.TheVariants.{WrongKey, Told}
 
 -- "one key (64 bytes as in a log, else 5)": 128 lower-case hex digits
 unfoldable pub is_key_text : Bytes → Bool
 is_key_text digits = eqb (length digits) 128 && is_hex digits
 
--- what is told of the key that the digits spell, over a log
-unfoldable pub why_of : Bytes → Bytes → Why
-why_of log digits = cond (is_key_text digits) (Told (why (unhex digits) log)) WrongKey
+-- what is told of the key that the digits spell, over a log; nothing where they are none
+unfoldable pub why_of : Bytes → Bytes → Option Reason
+why_of log digits = cond (is_key_text digits) (Some (why (unhex digits) log)) None
 
 -- ---- the row
 
@@ -52,6 +50,6 @@ reason_row (Proof n) = row proof_word (decimal n ∷ [])
 reason_row (Never a) = row never_word (decimal a ∷ [])
 reason_row Unnamed = row unnamed_word []
 
-unfoldable pub why_row : Why → Bytes
-why_row WrongKey = row (decimal 5) []
-why_row (Told reason) = reason_row reason
+unfoldable pub why_row : Option Reason → Bytes
+why_row None = row (decimal 5) []
+why_row (Some reason) = reason_row reason

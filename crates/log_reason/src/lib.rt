@@ -11,14 +11,6 @@ ghost use Rattle.log_reason.specs.Row.{is_key_text, why_row};
 use log_history::Reason;
 use printout_rows::{decimal_field, put_end, put_word};
 
-// What is told of a key.
-#[derive(Clone, Copy)]
-pub enum Why {
-    // 5: it isn't 128 lower-case hex digits.
-    WrongKey,
-    Told(Reason),
-}
-
 // The row of a word alone; its length.
 fn put_alone(out: &mut [u8], word: &[u8]) -> usize
     requires { (64 ≤ length out.old) × (length word.now ≤ 8) }
@@ -58,8 +50,8 @@ fn put_two(out: &mut [u8], word: &[u8], n: u64, m: u64) -> usize
 // The row of a reason; its length.
 fn put_reason(out: &mut [u8], reason: Reason) -> usize
     requires { 64 ≤ length out.old }
-    ensures len { result ≡ length (why_row (Why.Told reason)) }
-    ensures bytes { out.new ≡ store out.old 0 (why_row (Why.Told reason)) }
+    ensures len { result ≡ length (why_row (Some reason)) }
+    ensures bytes { out.new ≡ store out.old 0 (why_row (Some reason)) }
     ensures room { result ≤ 64 }
 {
     match reason {
@@ -72,15 +64,15 @@ fn put_reason(out: &mut [u8], reason: Reason) -> usize
     }
 }
 
-// Writes the row of an answer, and returns its length.
-pub fn put_why(out: &mut [u8; 64], answer: Why) -> usize
+// Writes the row of an answer, and returns its length. None is 5: the key isn't 128 lower-case hex digits.
+pub fn put_why(out: &mut [u8; 64], answer: Option<Reason>) -> usize
     ensures len { result ≡ length (why_row answer) }
     ensures bytes { out.new ≡ store out.old 0 (why_row answer) }
     ensures room { result ≤ 64 }
 {
     match answer {
-        Why::WrongKey => put_alone(out, b"5"),
-        Why::Told(reason) => put_reason(out, reason),
+        None => put_alone(out, b"5"),
+        Some(reason) => put_reason(out, reason),
     }
 }
 
@@ -88,10 +80,7 @@ pub fn put_why(out: &mut [u8; 64], answer: Why) -> usize
 pub fn is_key_text(digits: &[u8]) -> bool
     ensures { result ≡ is_key_text digits.now }
 {
-    if digits.len() != 128 {
-        return false;
-    }
-    text::is_hex(digits)
+    digits.len() == 128 && text::is_hex(digits)
 }
 
 // The key that a text spells.
@@ -99,7 +88,7 @@ pub fn key_of(digits: &[u8]) -> [u8; 64]
     requires { is_key_text digits.now ≡ true }
     ensures { result ≡ unhex digits.now }
 {
-    let mut key = [0u8; 64];
+    let mut key = [0; 64];
     text::put_unhex(&mut key, 0, digits);
     key
 }

@@ -45,13 +45,9 @@ module _ (s key : Bytes) {own hash : Bytes} {bits count : ℕ} (eo : own ≡ own
   is-bits : bits ≡ bit_length (distance (own_of s) (keccak256 key))
   is-bits = eb ∙ ap (λ l. bit_length (distance l hash)) eo ∙ ap (λ l. bit_length (distance (own_of s) l)) eh
 
-  pub first_slot : bits < 257 - count → 0 ≡ slot (env_of reading s) key
+  pub slot-is : bits - (257 - count) ≡ slot (env_of reading s) key
   unfolding bucket_number
-  first_slot h = omega (arith, is-bits, ec)
-
-  pub own-slot : 257 - count ≤ bits → bits - (257 - count) ≡ slot (env_of reading s) key
-  unfolding bucket_number
-  own-slot h = omega (arith, is-bits, ec)
+  slot-is = omega (arith, is-bits, ec)
 
 -- of a sound table every slot is sound, also that of a key whose bucket isn't kept
 pub sound_slot : (s key : Bytes) → table_sound s ≡ true → SoundAt s (slot (env_of reading s) key)

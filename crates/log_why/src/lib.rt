@@ -21,12 +21,10 @@ ghost use Rattle.log_why.specs.Steps.{seats_by, joins_by, removes_by, standing_b
 ghost use Rattle.log_why.specs.Tracking.{Stands, Starts, Ready, NotedLine};
 
 use bucket::Position;
-use bucket_entry::both;
 use bucket_lookup::Lookup;
 use entry::Entry;
 use log_acts::Acted;
 use log_history::{Reason, Standing, Trail};
-use log_reason::Why;
 use log_state::{MEMORY, Replay};
 
 // ---- where the node stands
@@ -48,10 +46,7 @@ fn slot_of(table: &[u8], key: &[u8]) -> usize
     let own = table::own_hash(table);
     let least = 257 - table::bucket_count(table);
     let bits = distance::bit_length(&own, &hash);
-    if bits < least {
-        return 0;
-    }
-    bits - least
+    bits.saturating_sub(least)
 }
 
 // Where the node stands in the table that a replay has led to: it is sound, so nothing of it is tested.
@@ -75,9 +70,10 @@ fn place_after(memory: &[u8], key: &[u8], replay: Replay, place: Lookup, looks: 
     ensures same { looks ≡ false → result ≡ place }
 {
     if looks {
-        return look(memory, key, replay);
+        look(memory, key, replay)
+    } else {
+        place
     }
-    place
 }
 
 // ---- its trail
@@ -85,29 +81,26 @@ fn place_after(memory: &[u8], key: &[u8], replay: Replay, place: Lookup, looks: 
 fn seats(before: Lookup, after: Lookup) -> bool
     ensures { result ≡ seats_by before after }
 {
-    both(!before.has_entry(), after.has_entry())
+    !before.has_entry() && after.has_entry()
 }
 
 fn joins(before: Lookup, after: Lookup) -> bool
     ensures { result ≡ joins_by before after }
 {
-    let waits = both(after.is_held(), !after.has_entry());
-    both(!before.is_held(), waits)
+    !before.is_held() && after.is_held() && !after.has_entry()
 }
 
 fn removes(before: Lookup, after: Lookup) -> bool
     ensures { result ≡ removes_by before after }
 {
-    both(before.is_held(), !after.is_held())
+    before.is_held() && !after.is_held()
 }
 
+// kept: an `if` in place of each call takes five lines.
 fn pick(test: bool, a: u64, b: u64) -> u64
     ensures { result ≡ cond test a b }
 {
-    if test {
-        return a;
-    }
-    b
+    if test { a } else { b }
 }
 
 fn standing_after(trail: Trail, acted: Acted, before: Lookup, after: Lookup) -> Standing
@@ -157,13 +150,13 @@ fn trail_after(trail: Trail, acted: Acted, before: Lookup, after: Lookup) -> Tra
 pub fn reason_of(trail: Trail) -> Reason
     ensures { result ≡ reason_of trail }
 {
-    let standing = trail.standing;
-    match standing {
+    match trail.standing {
         Standing::NotYet => {
             if trail.named {
-                return Reason::Never(trail.number);
+                Reason::Never(trail.number)
+            } else {
+                Reason::Unnamed
             }
-            Reason::Unnamed
         }
         Standing::SeatedAt(n) => Reason::Seated(n, trail.tail),
         Standing::WaitingSince(n) => Reason::Waiting(n),
@@ -256,20 +249,20 @@ fn reason_over(log: &[u8], key: &[u8]) -> Reason
     let mut tracked = start();
     let mut at = 0;
     while at < log.len() {
-        let end = text::find(log, at, 10);
+        let end = text::find(log, at, b'\n');
         tracked = note_line(&mut memory, key, tracked, &log[at..end]);
         at = end + 1;
     }
     reason_of(tracked.trail)
 }
 
-// Why the node with the key that `digits` spells is or isn't in the table at the end of `log`.
-pub fn tell_why(log: &[u8], digits: &[u8]) -> Why
+// Why the node with the key that `digits` spells is or isn't in the table at the end of `log`, if they spell one.
+pub fn tell_why(log: &[u8], digits: &[u8]) -> Option<Reason>
     ensures { result ≡ why_of log.now digits.now }
 {
     if !log_reason::is_key_text(digits) {
-        return Why::WrongKey;
+        return None;
     }
     let key = log_reason::key_of(digits);
-    Why::Told(reason_over(log, &key))
+    Some(reason_over(log, &key))
 }

@@ -34,24 +34,20 @@ pub struct Node {
 pub fn is_address_size(n: usize) -> bool
     ensures { result ≡ is_address_size n }
 {
-    if n == 4 {
-        return true;
-    }
-    n == 16
+    matches!(n, 4 | 16)
 }
 
 // A node of zeros.
 pub fn no_node() -> Node
     ensures { result ≡ no_node }
 {
-    let endpoint = Endpoint {
-        len: 0,
-        address: [0; 16],
-        udp: 0,
-        tcp: 0,
-    };
     Node {
         key: [0; 64],
-        endpoint,
+        endpoint: Endpoint {
+            len: 0,
+            address: [0; 16],
+            udp: 0,
+            tcp: 0,
+        },
     }
 }

@@ -1,5 +1,6 @@
 -- A packet is accepted exactly if its data begins with the encoding of values of its schema's kinds: what the six theorems share.
 use Prim.Native.Nat.{ℕ, ◌+◌, ◌≤◌}
+use Rattle.std.specs.Prelude.{Option, Some, None}
 use mathlib.Core.Path.{◌≡◌, refl, sym, ap, subst, ◌∙◌}
 use mathlib.Core.Logic.{◌↔◌}
 use mathlib.Core.List.{List}
@@ -11,7 +12,7 @@ use Rattle.rlp.specs.Encoding.{Item, encodes, Small}
 use Rattle.packet_schema.specs.Schema.{verdict}
 use Rattle.packet_schema.specs.Shapes.{Begins, Accepted}
 use Rattle.packet_kinds.specs.declared.Verdict.{Verdict}
-use Rattle.packet_kinds.specs.declared.Verdict.TheVariants.{Good, Broken, Wrong}
+use Rattle.packet_kinds.specs.declared.Verdict.TheVariants.{Good, Wrong, Broken}
 use Rattle.packet_schema.proofs.Shapes.{AllLimited}
 use Rattle.packet_schema.proofs.Accepted.{small_data, good_accepted, accepted_good}
 use Rattle.packet_span.specs.Parts.{bytes_of}
@@ -19,8 +20,6 @@ use Rattle.packet_fields.specs.Spans.{span_of}
 use Rattle.packet.specs.Packets.{schema_of, required_of, packet_of, answered, read_as, read_typed}
 use Rattle.packet.specs.declared.PacketType.{PacketType}
 use Rattle.packet.specs.declared.PacketType.TheVariants as type
-use Rattle.packet.specs.declared.TypeByte.{TypeByte}
-use Rattle.packet.specs.declared.TypeByte.TheVariants.{Known, Unknown}
 use Rattle.packet.specs.declared.Packet.{Packet}
 use Rattle.packet.specs.declared.Packet.TheVariants as packet
 use Rattle.packet.specs.declared.Parsed.TheVariants as parsed
@@ -49,12 +48,12 @@ typed type.EnrRequest base s = refl
 typed type.EnrResponse base s = refl
 
 -- a packet is read by its own type only
-pub read_type : (t : TypeByte) (base : ℕ) (d : Bytes) (y : Packet) → read_typed t base d ≡ parsed.Packet y → t ≡ Known (type_in y)
+pub read_type : (t : Option PacketType) (base : ℕ) (d : Bytes) (y : Packet) → read_typed t base d ≡ parsed.Packet y → t ≡ Some (type_in y)
 unfolding read_as
-read_type (Known t) base d y e =
+read_type (Some t) base d y e =
     let r = answered_good (verdict (required_of t) (schema_of t) d) (packet_of t (base + (span_of 0 d).start) (bytes_of d (span_of 0 d))) y e in
-    ap Known (sym (typed t (base + (span_of 0 d).start) (bytes_of d (span_of 0 d))) ∙ ap type_in r.1)
-read_type Unknown base d y e = absurd (let z : ◌≡◌ {A = ℕ} 0 1 = cc in omega arith)
+    ap Some (sym (typed t (base + (span_of 0 d).start) (bytes_of d (span_of 0 d))) ∙ ap type_in r.1)
+read_type None base d y e = absurd (let z : ◌≡◌ {A = ℕ} 0 1 = cc in omega arith)
 
 -- the integer limits of all schemas fit 64 bits
 limits : (t : PacketType) → AllLimited (schema_of t)

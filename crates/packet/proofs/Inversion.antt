@@ -10,8 +10,7 @@ use Rattle.octets.specs.Octets.{Bytes, Slice}
 use Rattle.rlp.specs.Encoding.{Item, string, list, encode, encodes, payload_of, Small}
 use Rattle.rlp.proofs.Encoding.{small-first, small-rest}
 use Rattle.packet_model.specs.Items.{uint, endpoint, ping_items, pong_items, find_node_items, enr_request_items, enr_response_items}
-use Rattle.packet_model.specs.declared.EnrSeq.{EnrSeq}
-use Rattle.packet_model.specs.declared.EnrSeq.TheVariants.{Absent, Present}
+use Rattle.std.specs.Prelude.{Option, Some, None}
 use Rattle.packet_model.specs.From.{From, from_bytes, is_from}
 use Rattle.packet_schema.specs.Shapes.{Shapes, Begins, Accepted}
 use Rattle.packet_span.specs.Parts.{bytes_of, moved}
@@ -37,13 +36,13 @@ fits_64 h = omega arith
 pub fits-any : {n : ℕ} → n ≤ 2 ^ 64 - 1 → n < 2 ^ 64
 fits-any h = omega arith
 
-seq_shapes : (e : EnrSeq) (more : List Item) → SeqFits e → Shapes 0 (any_uint ∷ []) (trailing e more)
-seq_shapes Absent more h = refl
-seq_shapes (Present n) more h = (record { value = n; is = refl; fits = fits_64 h }, tt)
+seq_shapes : (e : Option ℕ) (more : List Item) → SeqFits e → Shapes 0 (any_uint ∷ []) (trailing e more)
+seq_shapes None more h = refl
+seq_shapes (Some n) more h = (record { value = n; is = refl; fits = fits_64 h }, tt)
 
-seq_found : (is : List Item) → Shapes 0 (any_uint ∷ []) is → (e : EnrSeq) × (more : List Item) × (is ≡ trailing e more) × SeqFits e
-seq_found [] h = (Absent, [], refl, tt)
-seq_found (i ∷ is) h = (Present h.0.value, is, ap (λ (x : Item). x ∷ is) h.0.is, fits-any h.0.fits)
+seq_found : (is : List Item) → Shapes 0 (any_uint ∷ []) is → (e : Option ℕ) × (more : List Item) × (is ≡ trailing e more) × SeqFits e
+seq_found [] h = (None, [], refl, tt)
+seq_found (i ∷ is) h = (Some h.0.value, is, ap (λ (x : Item). x ∷ is) h.0.is, fits-any h.0.fits)
 
 -- each item of a small list is small
 nth_small : (is : List Item) → Small is → (n : ℕ) → length (payload_of (get_or is n (string []))) < 2 ^ 64
@@ -106,10 +105,10 @@ module _ (g : Bytes) (base : ℕ) (sl : Slice g) (fits : base ≤ length g) wher
     from_at n f u t e h = from_is g at s is (payload-lies g base sl fits) items small n f u t e (part_small n (from_bytes f) u t e) h
 
     -- the enr-seq that is item n, after the first n
-    seq-at : (n : ℕ) (e : EnrSeq) (more : List Item) → drop n is ≡ trailing e more → n ≤ length is → SeqFits e → enr_seq_item n s ≡ e
-    seq-at n Absent more q l h =
+    seq-at : (n : ℕ) (e : Option ℕ) (more : List Item) → drop n is ≡ trailing e more → n ≤ length is → SeqFits e → enr_seq_item n s ≡ e
+    seq-at n None more q l h =
         absent-is g at s is (payload-lies g base sl fits) items small n (omega (arith, ap length q, length-drop n is))
-    seq-at n (Present v) more q l h =
+    seq-at n (Some v) more q l h =
         let first : get_or is n (string []) ≡ uint v = get_d_of_drop is n q in
         present-is g at s is (payload-lies g base sl fits) items small n (omega (arith, ap length q, length-drop n is)) first h
 

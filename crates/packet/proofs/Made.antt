@@ -1,11 +1,8 @@
 -- What the functions over a payload's fields make of them.
 use Prim.Native.Nat.{ℕ, ◌+◌}
 use mathlib.Core.Path.{◌≡◌, sym, ap, ◌∙◌}
-use mathlib.Core.List.{List}
-use lib.ListN.{length, take}
 use Rattle.octets.specs.Octets.{Bytes}
 use Rattle.packet_schema.specs.Schema.{verdict}
-use Rattle.packet_kinds.specs.declared.Kind.{Kind}
 use Rattle.packet_kinds.specs.declared.Verdict.{Verdict}
 use Rattle.packet_kinds.specs.declared.Verdict.TheVariants.{Good}
 use Rattle.packet_span.specs.Parts.{bytes_of, moved}
@@ -33,17 +30,13 @@ module _ (base n : ℕ) (s : Bytes) (span : Span) (e : Bytes) (is : span ≡ spa
       λ j. record { address = pa j; udp = pu j; tcp = pt j }
 
 -- packet data that was read
-module _ (t : PacketType) (base : ℕ) (d : Bytes) (v : Verdict) (kinds : List Kind) (n r : ℕ) (ks : take (length (schema_of t)) kinds ≡ schema_of t) (cs : n ≡ length (schema_of t)) (rs : r ≡ required_of t)
-    (is : v ≡ verdict r (take n kinds) d) where
-  by-type : v ≡ verdict (required_of t) (schema_of t) d
-  by-type = is ∙ ap (λ (k : ℕ). verdict k (take n kinds) d) rs ∙ ap (λ (l : List Kind). verdict (required_of t) l d) (ap (λ (k : ℕ). take k kinds) cs ∙ ks)
-
+module _ (t : PacketType) (base : ℕ) (d : Bytes) (v : Verdict) (is : v ≡ verdict (required_of t) (schema_of t) d) where
   abbrev accepted : Packet
   accepted = packet_of t (base + (span_of 0 d).start) (bytes_of d (span_of 0 d))
 
   pub read-verdict : answered v accepted ≡ read_as t base d
   unfolding read_as
-  read-verdict = rw (← by-type)
+  read-verdict = rw (← is)
 
   pub read-good : v ≡ Good → (span : Span) (p : Bytes) (x : Packet) → span ≡ span_of 0 d → p ≡ bytes_of d span → x ≡ packet_of t (base + span.start) p → parsed.Packet x ≡ read_as t base d
   read-good g span p x s e q =

@@ -1,11 +1,9 @@
 -- Nodes and the items that encode them.
 use Prim.Native.Nat.{ℕ, ◌*◌, ◌≤◌, ◌<◌, ◌^◌}
 use mathlib.Core.Path.{◌≡◌, refl, sym, ap, subst, ◌∙◌}
-use mathlib.Core.Bool.{Bool, true, false}
 use mathlib.Core.List.{List, [], ◌∷◌, ◌++◌, map}
 use native.Mathlib.Omega.{arith}
-use borrow.Author.Tests.{le-leb, eqb-true}
-use lib.Dec.{eqb}
+use borrow.Author.Tests.{le-leb}
 use lib.ListN.{length, take, replicate, length-append, length-replicate}
 use Rattle.octets.specs.Octets.{Bytes, part, store}
 use Rattle.octets.proofs.Laws.{part_all, part-store, store_all}
@@ -19,7 +17,7 @@ use Rattle.packet_model.proofs.From.{address_range}
 use Rattle.packet_schema.specs.Shapes.{IsEndpoint, IsNode, AllNodes}
 use Rattle.packet_kinds.proofs.Payload.{items_encodes}
 use Rattle.node.specs.declared.Node.{Node}
-use Rattle.node.specs.Nodes.{address_of, is_address}
+use Rattle.node.specs.Nodes.{address_of}
 use Rattle.packet_fields.specs.Spans.{fitting, padded, node_of, nodes_of}
 use Rattle.packet.specs.Accepted.{NodeGood, NodesGood}
 use Rattle.packet.proofs.Values.{Lies, item_is, port-is}

@@ -1,5 +1,6 @@
 -- The values that are read of a payload whose items are known.
 use Prim.Native.Nat.{ℕ, suc, ◌+◌, ◌≤◌, ◌<◌, ◌^◌}
+use Rattle.std.specs.Prelude.{Some, None}
 use mathlib.Core.Path.{◌≡◌, refl, sym, ap, ◌∙◌}
 use mathlib.Core.Bool.{true}
 use mathlib.Core.List.{List, [], ◌∷◌, ◌++◌}
@@ -13,7 +14,7 @@ use Rattle.rlp.specs.Encoding.{Item, string, list, encode, encodes, payload_of, 
 use Rattle.rlp.specs.Reading.{head, extent, offset, count, uint_of}
 use Rattle.rlp.proofs.Encoding.{read_item, read_payload, encode-length, uint_read, count-encodes, offset-encodes, nth_item}
 use Rattle.packet_model.specs.Items.{data_of, uint, endpoint}
-use Rattle.packet_model.specs.declared.EnrSeq.TheVariants.{Absent, Present}
+use Rattle.std.specs.Prelude.{Some, None}
 use Rattle.packet_kinds.specs.Payload.{items_of}
 use Rattle.packet_model.specs.From.{From, unknown, known, from_bytes, is_from}
 use Rattle.packet_model.proofs.From.{address_range}
@@ -23,7 +24,6 @@ use Rattle.packet_span.specs.Parts.{bytes_of, moved}
 use Rattle.packet_fields.specs.Spans.{span_of, item_span, item_at, value_of, uint_item, port_item, enr_seq_item}
 use Rattle.packet.specs.Packets.{endpoint_of, sender_of, said}
 use Rattle.packet.specs.Accepted.{from_of}
-use Rattle.packet.specs.declared.SenderAddress.TheVariants.{Unknown, Known}
 use Rattle.packet_span.specs.declared.Span.{Span}
 use Rattle.packet_span.proofs.Parts.{bytes_in}
 use Rattle.packet_fields.proofs.Spans.{span-bound, item-span-bound, span_payload}
@@ -82,13 +82,13 @@ module _ (g : Bytes) (at : ℕ) (s : Bytes) (is : List Item) (lies : Lies g at s
   unfolding port_item
   port-is n {v} e h = rw (uint-is n e (omega arith), le-leb v 65535 h)
 
-  pub present-is : (n : ℕ) {v : ℕ} → n < length is → get_or is n (string []) ≡ uint v → v < 2 ^ 64 → enr_seq_item n s ≡ Present v
+  pub present-is : (n : ℕ) {v : ℕ} → n < length is → get_or is n (string []) ≡ uint v → v < 2 ^ 64 → enr_seq_item n s ≡ Some v
   unfolding enr_seq_item
   present-is n {v} l e h =
       let c : count s ≡ length is = ap count items ∙ count-encodes is small in
-      rw (c, lt-ltb n (length is) l) (ap Present (uint-is n e h))
+      rw (c, lt-ltb n (length is) l) (ap Some (uint-is n e h))
 
-  pub absent-is : (n : ℕ) → length is ≤ n → enr_seq_item n s ≡ Absent
+  pub absent-is : (n : ℕ) → length is ≤ n → enr_seq_item n s ≡ None
   unfolding enr_seq_item
   absent-is n l =
       let c : count s ≡ length is = ap count items ∙ count-encodes is small in
@@ -157,10 +157,10 @@ module _ (g : Bytes) (at : ℕ) (s : Bytes) (is : List Item) (lies : Lies g at s
   unfolding endpoint_of e parts
   len_is = sym (span-length 0 e) ∙ ap length (span_payload 0 e ∙ ap payload_of (item_is g (at + (span_of n s).start) e parts there inner small-parts 0))
 
-said_unknown : (a : Span) → a.len ≡ 0 → said a ≡ Unknown
+said_unknown : (a : Span) → a.len ≡ 0 → said a ≡ None
 said_unknown a h = rw (eq-eqb a.len 0 h)
 
-said_known : (a : Span) → 0 < a.len → said a ≡ Known a
+said_known : (a : Span) → 0 < a.len → said a ≡ Some a
 said_known a h = rw (ne_eqb a.len 0 (λ e. omega arith))
 
 -- a span says `f` if it has the bytes and the size of `f`

@@ -1,22 +1,20 @@
 -- The fields of the six packets as numbers and byte strings, and what data that encodes them begins with.
-use Rattle.std.specs.Prelude.{ℕ, ◌≤◌, ◌<◌, ◌^◌, ◌≡◌, List, [], ◌∷◌, map, length}
+use Rattle.std.specs.Prelude.{ℕ, ◌≤◌, ◌<◌, ◌^◌, ◌≡◌, List, [], ◌∷◌, Option, Some, None, map, length}
 use Rattle.octets.specs.Octets.{Bytes}
 use Rattle.rlp.specs.Encoding.{Item, list, encode}
 use Rattle.packet_model.specs.Items.{uint, endpoint, node_item, ping_items, pong_items, find_node_items, neighbors_items, enr_request_items, enr_response_items}
-use Rattle.packet_model.specs.declared.EnrSeq.{EnrSeq}
-use Rattle.packet_model.specs.declared.EnrSeq.TheVariants.{Absent, Present}
+use Rattle.std.specs.Prelude.{Option, Some, None}
 use Rattle.packet_model.specs.From.{From, unknown, known, from_bytes}
 use Rattle.packet_schema.specs.Shapes.{IsEndpoint, IsSender, Begins}
 use Rattle.node.specs.declared.Node.{Node}
 use Rattle.node.specs.Nodes.{address_of}
 use Rattle.packet_span.specs.Parts.{bytes_of}
+use Rattle.packet_span.specs.declared.Span.{Span}
 use Rattle.packet_fields.specs.Spans.{padded, nodes_of}
 use Rattle.packet.specs.declared.PacketType.{PacketType}
 use Rattle.packet.specs.declared.PacketType.TheVariants as type
 use Rattle.packet.specs.declared.Packet.{Packet}
 use Rattle.packet.specs.declared.Packet.TheVariants as packet
-use Rattle.packet.specs.declared.SenderAddress.{SenderAddress}
-use Rattle.packet.specs.declared.SenderAddress.TheVariants.{Unknown, Known}
 use Rattle.packet.specs.declared.Ping.{Ping}
 use Rattle.packet.specs.declared.Pong.{Pong}
 use Rattle.packet.specs.declared.FindNode.{FindNode}
@@ -25,20 +23,20 @@ use Rattle.packet.specs.declared.EnrRequest.{EnrRequest}
 use Rattle.packet.specs.declared.EnrResponse.{EnrResponse}
 
 -- an enr-seq, and items after it that are ignored; none where it is absent
-abbrev pub trailing : EnrSeq → List Item → List Item
-trailing Absent more = []
-trailing (Present n) more = uint n ∷ more
+abbrev pub trailing : Option ℕ → List Item → List Item
+trailing None more = []
+trailing (Some n) more = uint n ∷ more
 
-abbrev pub SeqFits : EnrSeq → Type 0
-SeqFits Absent = Unit {0}
-SeqFits (Present n) = n < 2 ^ 64
+abbrev pub SeqFits : Option ℕ → Type 0
+SeqFits None = Unit {0}
+SeqFits (Some n) = n < 2 ^ 64
 
 -- ---- 1 Ping
 
 -- the address in `from`, of the datagram g
-abbrev pub from_of : Bytes → SenderAddress → From
-from_of g Unknown = unknown
-from_of g (Known span) = known (bytes_of g span)
+abbrev pub from_of : Bytes → Option Span → From
+from_of g None = unknown
+from_of g (Some span) = known (bytes_of g span)
 
 pub record PingFields : Type 0 where
   pub version : ℕ
@@ -48,7 +46,7 @@ pub record PingFields : Type 0 where
   pub to_address : Bytes
   pub to_udp : ℕ
   pub expiration : ℕ
-  pub enr-seq : EnrSeq
+  pub enr-seq : Option ℕ
 
 -- the fields of a packet in the datagram g
 abbrev pub ping_fields : Bytes → Ping → PingFields
@@ -82,7 +80,7 @@ pub record PongFields : Type 0 where
   pub to_udp : ℕ
   pub ping-hash : Bytes
   pub expiration : ℕ
-  pub enr-seq : EnrSeq
+  pub enr-seq : Option ℕ
 
 abbrev pub pong_fields : Bytes → Pong → PongFields
 pong_fields g p =

@@ -1,8 +1,6 @@
 -- The answers of small data, by type: which number goes before which, and what is not examined.
-use Rattle.std.specs.Prelude.{◌≡◌, [], ◌∷◌}
-use Rattle.packet_model.specs.declared.EnrSeq.TheVariants.{Absent}
+use Rattle.std.specs.Prelude.{◌≡◌, [], ◌∷◌, None}
 use Rattle.packet.specs.Packets.{read_data}
-use Rattle.packet.specs.declared.SenderAddress.TheVariants.{Unknown}
 use Rattle.packet.specs.declared.Packet.TheVariants.{Ping, EnrRequest}
 use Rattle.packet.specs.declared.Parsed.TheVariants.{Packet, Refused}
 
@@ -32,9 +30,9 @@ pub record Examples : Type 0 where
   pub unknown_from : read_data 1 98 (0xce ∷ 0x04 ∷ 0xc3 ∷ 0x80 ∷ 0x01 ∷ 0x02 ∷ 0xc7 ∷ 0x84 ∷ 0x0a ∷ 0x00 ∷ 0x00 ∷ 0x07 ∷ 0x03 ∷ 0x80 ∷ 0x09 ∷ [])
       ≡ Packet (Ping (record {
         version = 4;
-        from = record { address = Unknown; udp = 1; tcp = 2 };
+        from = record { address = None; udp = 1; tcp = 2 };
         to = record { address = record { start = 106; len = 4 }; udp = 3 };
         expiration = 9;
-        enr_seq = Absent;
+        enr_seq = None;
       }))
   pub empty_to : read_data 1 98 (0xce ∷ 0x04 ∷ 0xc7 ∷ 0x84 ∷ 0x0a ∷ 0x00 ∷ 0x00 ∷ 0x07 ∷ 0x01 ∷ 0x02 ∷ 0xc3 ∷ 0x80 ∷ 0x03 ∷ 0x80 ∷ 0x09 ∷ []) ≡ Refused 10

@@ -1,25 +1,21 @@
 -- The six packets of the discv4 wire protocol: what the data after the 98-byte head must be, and the fields that it has.
-use Rattle.std.specs.Prelude.{ℕ, ◌+◌, ◌-◌, ◌^◌, cond, List, [], ◌∷◌, eqb}
+use Rattle.std.specs.Prelude.{ℕ, ◌+◌, ◌-◌, ◌^◌, cond, List, [], ◌∷◌, Option, Some, None, eqb}
 use Rattle.octets.specs.Octets.{Bytes}
 use Rattle.packet_schema.specs.Schema.{verdict}
 use Rattle.packet_kinds.specs.declared.Kind.{Kind}
 use Rattle.packet_kinds.specs.declared.Kind.TheVariants.{Uint, Endpoint, Sender, Nodes, Record}
 use Rattle.packet_kinds.specs.declared.Kind.TheVariants as kind
 use Rattle.packet_kinds.specs.declared.Verdict.{Verdict}
-use Rattle.packet_kinds.specs.declared.Verdict.TheVariants.{Good, Broken, Wrong}
+use Rattle.packet_kinds.specs.declared.Verdict.TheVariants.{Good, Wrong, Broken}
 use Rattle.packet_span.specs.Parts.{bytes_of, moved}
 use Rattle.packet_fields.specs.Spans.{span_of, item_span, uint_item, port_item, enr_seq_item}
 use Rattle.packet.specs.declared.PacketType.{PacketType}
 use Rattle.packet.specs.declared.PacketType.TheVariants as type
-use Rattle.packet.specs.declared.TypeByte.{TypeByte}
-use Rattle.packet.specs.declared.TypeByte.TheVariants.{Known, Unknown}
 use Rattle.packet.specs.declared.Packet.{Packet}
 use Rattle.packet.specs.declared.Packet.TheVariants as packet
 use Rattle.packet.specs.declared.Parsed.{Parsed}
 use Rattle.packet.specs.declared.Parsed.TheVariants as parsed
 use Rattle.packet_span.specs.declared.Span.{Span}
-use Rattle.packet.specs.declared.SenderAddress.{SenderAddress}
-use Rattle.packet.specs.declared.SenderAddress.TheVariants as address
 use Rattle.packet.specs.declared.EndpointSpan.{EndpointSpan}
 use Rattle.packet.specs.declared.Sender as from
 use Rattle.packet.specs.declared.Recipient.{Recipient}
@@ -30,13 +26,13 @@ use Rattle.packet.specs.declared.Neighbors.{Neighbors}
 use Rattle.packet.specs.declared.EnrRequest.{EnrRequest}
 use Rattle.packet.specs.declared.EnrResponse.{EnrResponse}
 
-unfoldable pub type_of : ℕ → TypeByte
+unfoldable pub type_of : ℕ → Option PacketType
 type_of b =
-    cond (eqb b 1) (Known type.Ping)
-    (cond (eqb b 2) (Known type.Pong)
-    (cond (eqb b 3) (Known type.FindNode)
-    (cond (eqb b 4) (Known type.Neighbors)
-    (cond (eqb b 5) (Known type.EnrRequest) (cond (eqb b 6) (Known type.EnrResponse) Unknown)))))
+    cond (eqb b 1) (Some type.Ping)
+    (cond (eqb b 2) (Some type.Pong)
+    (cond (eqb b 3) (Some type.FindNode)
+    (cond (eqb b 4) (Some type.Neighbors)
+    (cond (eqb b 5) (Some type.EnrRequest) (cond (eqb b 6) (Some type.EnrResponse) None)))))
 
 -- the byte of each type
 abbrev pub byte_of : PacketType → ℕ
@@ -79,8 +75,8 @@ unfoldable pub endpoint_of : ℕ → ℕ → Bytes → EndpointSpan
 endpoint_of base n s = endpoint_at (base + (span_of n s).start) (bytes_of s (span_of n s))
 
 -- C-13: "say 'unknown' for 0"
-abbrev pub said : Span → SenderAddress
-said a = cond (eqb a.len 0) address.Unknown (address.Known a)
+abbrev pub said : Span → Option Span
+said a = cond (eqb a.len 0) None (Some a)
 
 -- `from`, with both ports
 abbrev pub sender : EndpointSpan → from.Sender
@@ -147,9 +143,9 @@ read_as t base d =
     answered (verdict (required_of t) (schema_of t) d) (packet_of t (base + (span_of 0 d).start) (bytes_of d (span_of 0 d)))
 
 -- by what its type byte says
-abbrev pub read_typed : TypeByte → ℕ → Bytes → Parsed
-read_typed (Known t) base d = read_as t base d
-read_typed Unknown base d = parsed.Refused 8
+abbrev pub read_typed : Option PacketType → ℕ → Bytes → Parsed
+read_typed (Some t) base d = read_as t base d
+read_typed None base d = parsed.Refused 8
 
 -- by its type byte
 abbrev pub read_data : ℕ → ℕ → Bytes → Parsed

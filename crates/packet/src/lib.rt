@@ -1,28 +1,22 @@
 // The six packets of the discv4 wire protocol, read from the data after the 98-byte head.
 #![tactic(auto)]
 
-ghost use Rattle.std.specs.Prelude.{◌≡◌, ◌+◌, ◌≤◌, ◌<◌, ◌^◌, length, take};
+ghost use Rattle.std.specs.Prelude.{◌≡◌, ◌+◌, ◌<◌, ◌^◌, length};
 ghost use Rattle.packet_span.specs.Parts as span;
 ghost use Rattle.packet_fields.specs.Spans.{span_of};
+ghost use Rattle.packet_schema.specs.Schema.{verdict};
 ghost use Rattle.packet.specs.Packets.{type_of, schema_of, required_of, endpoint_of, sender_of, ping_of, pong_of, find_node_of, neighbors_of, enr_request_of, enr_response_of, packet_of, read_as, read_data};
 ghost use Rattle.packet.specs.Packets as spec;
 
 use packet_fields::{enr_seq_item, item_payload, item_span, port_item, uint_item};
 use packet_kinds::{Kind, Verdict};
-use packet_model::EnrSeq;
+use packet_schema::check_data;
 use packet_span::{Span, bytes_of, moved};
 
-// The address in `from`: an empty one is unknown.
-#[derive(Clone, Copy)]
-pub enum SenderAddress {
-    Unknown,
-    Known(Span),
-}
-
-// The endpoint `from`.
-#[derive(Clone, Copy)]
+// The endpoint `from`: an empty address is unknown.
+#[derive(Clone, Copy, Debug, PartialEq, Eq)]
 pub struct Sender {
-    pub address: SenderAddress,
+    pub address: Option<Span>,
     pub udp: u16,
     pub tcp: u16,
 }
@@ -48,7 +42,7 @@ pub struct Ping {
     pub from: Sender,
     pub to: Recipient,
     pub expiration: u64,
-    pub enr_seq: EnrSeq,
+    pub enr_seq: Option<u64>,
 }
 
 #[derive(Clone, Copy)]
@@ -56,7 +50,7 @@ pub struct Pong {
     pub to: Recipient,
     pub ping_hash: Span,
     pub expiration: u64,
-    pub enr_seq: EnrSeq,
+    pub enr_seq: Option<u64>,
 }
 
 #[derive(Clone, Copy)]
@@ -111,13 +105,6 @@ pub enum PacketType {
     EnrResponse,
 }
 
-// What a type byte says.
-#[derive(Clone, Copy)]
-pub enum TypeByte {
-    Known(PacketType),
-    Unknown,
-}
-
 // The endpoint that is item `n` of the payload `s`, which begins at `base` of the datagram.
 fn endpoint_at(s: &[u8], base: usize, n: usize) -> EndpointSpan
     requires { base + length s.now < 2 ^ 64 }
@@ -135,13 +122,13 @@ fn endpoint_at(s: &[u8], base: usize, n: usize) -> EndpointSpan
 }
 
 // Document 02 (C-13): "say 'unknown' for 0".
-fn said(address: Span) -> SenderAddress
+fn said(address: Span) -> Option<Span>
     ensures { result ≡ spec.said address }
 {
     if address.len == 0 {
-        return SenderAddress::Unknown;
+        return None;
     }
-    SenderAddress::Known(address)
+    Some(address)
 }
 
 fn sender_at(s: &[u8], base: usize, n: usize) -> Sender
@@ -149,10 +136,8 @@ fn sender_at(s: &[u8], base: usize, n: usize) -> Sender
     ensures { result ≡ sender_of base n s.now }
 {
     let e = endpoint_at(s, base, n);
-    let span = e.address;
-    let address = said(span);
     Sender {
-        address,
+        address: said(e.address),
         udp: e.udp,
         tcp: e.tcp,
     }
@@ -163,9 +148,8 @@ fn recipient_at(s: &[u8], base: usize, n: usize) -> Recipient
     ensures { result ≡ spec.recipient_of base n s.now }
 {
     let e = endpoint_at(s, base, n);
-    let address = e.address;
     Recipient {
-        address,
+        address: e.address,
         udp: e.udp,
     }
 }
@@ -241,58 +225,34 @@ fn enr_response_fields(s: &[u8], base: usize) -> EnrResponse
     }
 }
 
-pub fn type_of(b: u8) -> TypeByte
+// The type that a type byte says; none where it is unknown.
+#[tactic(auto, unfolding(crate::specs::Packets::type_of))]
+pub fn type_of(b: u8) -> Option<PacketType>
     ensures { result ≡ type_of b }
 {
     match b {
-        1 => TypeByte::Known(PacketType::Ping),
-        2 => TypeByte::Known(PacketType::Pong),
-        3 => TypeByte::Known(PacketType::FindNode),
-        4 => TypeByte::Known(PacketType::Neighbors),
-        5 => TypeByte::Known(PacketType::EnrRequest),
-        6 => TypeByte::Known(PacketType::EnrResponse),
-        _ => TypeByte::Unknown,
+        1 => Some(PacketType::Ping),
+        2 => Some(PacketType::Pong),
+        3 => Some(PacketType::FindNode),
+        4 => Some(PacketType::Neighbors),
+        5 => Some(PacketType::EnrRequest),
+        6 => Some(PacketType::EnrResponse),
+        _ => None,
     }
 }
 
-// What the items of each packet must be; `count_of` and `required_of` say how many of these kinds count.
-fn kinds_of(t: PacketType) -> [Kind; 5]
-    ensures { take (length (schema_of t)) result ≡ schema_of t }
+// Whether data is what a packet of type `t` must be: of the kinds of its items all must be there but the last of Ping and Pong.
+fn check(t: PacketType, bytes: &[u8]) -> Verdict
+    ensures { result ≡ verdict (required_of t) (schema_of t) bytes.now }
 {
-    let any = Kind::Uint(18446744073709551615);
+    let any = Kind::Uint(u64::MAX);
     match t {
-        PacketType::Ping => [any, Kind::Sender, Kind::Endpoint, any, any],
-        PacketType::Pong => [Kind::Endpoint, Kind::Bytes(32), any, any, any],
-        PacketType::FindNode => [Kind::Bytes(64), any, any, any, any],
-        PacketType::Neighbors => [Kind::Nodes, any, any, any, any],
-        PacketType::EnrRequest => [any, any, any, any, any],
-        PacketType::EnrResponse => [Kind::Bytes(32), Kind::Record, any, any, any],
-    }
-}
-
-fn count_of(t: PacketType) -> usize
-    ensures { (result ≡ length (schema_of t)) × (result ≤ 5) }
-{
-    match t {
-        PacketType::Ping => 5,
-        PacketType::Pong => 4,
-        PacketType::FindNode => 2,
-        PacketType::Neighbors => 2,
-        PacketType::EnrRequest => 1,
-        PacketType::EnrResponse => 2,
-    }
-}
-
-fn required_of(t: PacketType) -> usize
-    ensures { result ≡ required_of t }
-{
-    match t {
-        PacketType::Ping => 4,
-        PacketType::Pong => 3,
-        PacketType::FindNode => 2,
-        PacketType::Neighbors => 2,
-        PacketType::EnrRequest => 1,
-        PacketType::EnrResponse => 2,
+        PacketType::Ping => check_data(bytes, &[any, Kind::Sender, Kind::Endpoint, any, any], 4),
+        PacketType::Pong => check_data(bytes, &[Kind::Endpoint, Kind::Bytes(32), any, any], 3),
+        PacketType::FindNode => check_data(bytes, &[Kind::Bytes(64), any], 2),
+        PacketType::Neighbors => check_data(bytes, &[Kind::Nodes, any], 2),
+        PacketType::EnrRequest => check_data(bytes, &[any], 1),
+        PacketType::EnrResponse => check_data(bytes, &[Kind::Bytes(32), Kind::Record], 2),
     }
 }
 
@@ -323,7 +283,7 @@ fn read_as(t: PacketType, bytes: &[u8], base: usize) -> Parsed
     requires { base + length bytes.now < 2 ^ 64 }
     ensures { result ≡ read_as t base bytes.now }
 {
-    match packet_schema::check_data(bytes, kinds_of(t), count_of(t), required_of(t)) {
+    match check(t, bytes) {
         Verdict::Good => {
             let span = item_payload(bytes, 0);
             Parsed::Packet(packet_of(t, bytes_of(bytes, span), base + span.start))
@@ -339,7 +299,7 @@ pub fn read_data(kind: u8, bytes: &[u8], base: usize) -> Parsed
     ensures { result ≡ read_data kind base bytes.now }
 {
     match type_of(kind) {
-        TypeByte::Known(t) => read_as(t, bytes, base),
-        TypeByte::Unknown => Parsed::Refused(numbers::UNKNOWN_TYPE),
+        Some(t) => read_as(t, bytes, base),
+        None => Parsed::Refused(numbers::UNKNOWN_TYPE),
     }
 }

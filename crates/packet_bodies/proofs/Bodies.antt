@@ -8,7 +8,8 @@ use lib.ListN.{length, length-append}
 use Rattle.octets.specs.Octets.{Bytes}
 use Rattle.rlp.specs.Encoding.{Item, header, encodes}
 use Rattle.packet_bodies.specs.Parts.{body}
-use Rattle.written.specs.declared.Written.TheVariants.{Done, Short}
+use Rattle.std.specs.Prelude.{Ok, Err}
+use Rattle.written.specs.declared.WriteError.TheVariants.{Short}
 use Rattle.written.proofs.Answers.{Answered, done, short}
 use Rattle.octets.proofs.Progress.{Progress, concat, start, finish}
 use Rattle.packet_bodies.proofs.Sizes.{framed}
@@ -31,8 +32,8 @@ module _ (kind : ℕ) (items : List Item) {size : ℕ} (is : size ≡ length (en
   begin {pieces} {buf} e h = start buf 0 ((kind ∷ header 0xc0 size) ∷ pieces) (omega (arith, ap length (all_is pieces e), body-length))
 
   pub end : {pieces : List Bytes} {ok : Bool} {buf exit : Bytes} {n : ℕ} → concat pieces ≡ encodes items → ok ≡ true
-      → Progress buf 0 ((kind ∷ header 0xc0 size) ∷ pieces) [] exit n → Answered ok (body kind items) buf (Done n) exit
+      → Progress buf 0 ((kind ∷ header 0xc0 size) ∷ pieces) [] exit n → Answered ok (body kind items) buf (Ok n) exit
   end {pieces} {ok} {buf} e t p = done ok (body kind items) buf t (omega (arith, p.fits, ap length (all_is pieces e))) (finish p (all_is pieces e))
 
-  pub too_short : {ok : Bool} {buf : Bytes} → ok ≡ true → length buf < 1 + length (header 0xc0 size) + size → Answered ok (body kind items) buf Short buf
+  pub too_short : {ok : Bool} {buf : Bytes} → ok ≡ true → length buf < 1 + length (header 0xc0 size) + size → Answered ok (body kind items) buf (Err Short) buf
   too_short {ok} {buf} t l = short ok (body kind items) buf t (omega (arith, body-length))

@@ -15,8 +15,7 @@ use Rattle.rlp.proofs.Writing.{header_short, header-long, encode_framed, encode_
 use Rattle.packet_model.specs.Items.{uint, endpoint, node}
 use Rattle.packet_model.specs.From.{is_sender_address}
 use Rattle.packet_model.proofs.From.{sender_range, address_sender}
-use Rattle.packet_model.specs.declared.EnrSeq.{EnrSeq}
-use Rattle.packet_model.specs.declared.EnrSeq.TheVariants.{Absent, Present}
+use Rattle.std.specs.Prelude.{Option, Some, None}
 use Rattle.packet_bodies.specs.Parts.{endpoint_items, last_items}
 
 -- a list's items behind a header that says their size
@@ -100,8 +99,8 @@ encodes-append [] js = refl
 encodes-append (i ∷ is) js = ap (λ (x : Bytes). encode i ++ x) (encodes-append is js) ∙ sym (append_assoc (encode i) (encodes is) (encodes js))
 
 -- the last items of Ping and Pong, by whether enr-seq is there
-pub last_absent : (x : ℕ) {e : EnrSeq} → e ≡ Absent → encodes (last_items x e) ≡ encode (uint x) ++ []
-last_absent x p = ap (λ (e : EnrSeq). encodes (last_items x e)) p
+pub last_absent : (x : ℕ) {e : Option ℕ} → e ≡ None → encodes (last_items x e) ≡ encode (uint x) ++ []
+last_absent x p = ap (λ (e : Option ℕ). encodes (last_items x e)) p
 
-pub last_present : (x : ℕ) {e : EnrSeq} {n : ℕ} → e ≡ Present n → encodes (last_items x e) ≡ encode (uint x) ++ (encode (uint n) ++ [])
-last_present x p = ap (λ (e : EnrSeq). encodes (last_items x e)) p
+pub last_present : (x : ℕ) {e : Option ℕ} {n : ℕ} → e ≡ Some n → encodes (last_items x e) ≡ encode (uint x) ++ (encode (uint n) ++ [])
+last_present x p = ap (λ (e : Option ℕ). encodes (last_items x e)) p

@@ -1,10 +1,9 @@
 -- What the writers of packets share: which values can be written, and the items of nodes.
-use Rattle.std.specs.Prelude.{ℕ, Bool, true, ◌&&◌, ◌||◌, List, [], ◌∷◌, map, eqb, leb, length, take}
+use Rattle.std.specs.Prelude.{ℕ, Bool, true, ◌&&◌, List, [], ◌∷◌, map, leb, take, Option}
 use Rattle.node.specs.Nodes.{is_address_size}
 use Rattle.octets.specs.Octets.{Bytes}
 use Rattle.rlp.specs.Encoding.{Item, string}
 use Rattle.packet_model.specs.Items.{data_of, uint, node_item, enr_seq_items}
-use Rattle.packet_model.specs.declared.EnrSeq.{EnrSeq}
 use Rattle.node.specs.declared.Node.{Node}
 use Rattle.packet_bodies.specs.declared.NodeList.{NodeList}
 
@@ -17,7 +16,7 @@ abbrev pub endpoint_items : Bytes → ℕ → ℕ → List Item
 endpoint_items address udp tcp = string address ∷ uint udp ∷ uint tcp ∷ []
 
 -- the last items of Ping and Pong
-abbrev pub last_items : ℕ → EnrSeq → List Item
+abbrev pub last_items : ℕ → Option ℕ → List Item
 last_items expiration e = uint expiration ∷ enr_seq_items e
 
 abbrev pub nodes_in : NodeList → List Node

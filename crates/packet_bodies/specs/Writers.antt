@@ -1,13 +1,11 @@
 -- What is written: the bodies of the six packets.
-use Rattle.std.specs.Prelude.{ℕ, ◌+◌, Bool, false, ◌&&◌, [], eqb, leb, length, drop}
+use Rattle.std.specs.Prelude.{ℕ, ◌+◌, Bool, false, ◌&&◌, [], Option, Some, None, eqb, leb, length, drop}
 use Rattle.node.specs.Nodes.{is_address}
 use Rattle.octets.specs.Octets.{Bytes}
 use Rattle.rlp.specs.Reading.{head}
-use Rattle.rlp.specs.declared.Header.{Header}
-use Rattle.rlp.specs.declared.Header.TheVariants as rlp
+use Rattle.rlp.specs.declared.Item as rlp
 use Rattle.packet_model.specs.Items.{endpoint, ping_items, pong_items, find_node_items, neighbors_items, enr_request_items, enr_response_items, enr_seq_items}
 use Rattle.packet_model.specs.From.{is_sender_address}
-use Rattle.packet_model.specs.declared.EnrSeq.{EnrSeq}
 use Rattle.packet_bodies.specs.Parts.{body, node_items}
 use Rattle.packet_bodies.specs.declared.NodeList.{NodeList}
 
@@ -15,7 +13,7 @@ use Rattle.packet_bodies.specs.declared.NodeList.{NodeList}
 abbrev pub can_ping : Bytes → Bytes → Bool
 can_ping from to = is_sender_address from && is_address to
 
-abbrev pub ping_body : Bytes → ℕ → ℕ → Bytes → ℕ → ℕ → EnrSeq → Bytes
+abbrev pub ping_body : Bytes → ℕ → ℕ → Bytes → ℕ → ℕ → Option ℕ → Bytes
 ping_body from from_udp_port from_tcp_port to to_udp_port expiration e =
     body 1 (ping_items 4 (endpoint from from_udp_port from_tcp_port) (endpoint to to_udp_port 0) expiration (enr_seq_items e))
 
@@ -23,7 +21,7 @@ ping_body from from_udp_port from_tcp_port to to_udp_port expiration e =
 abbrev pub can_pong : Bytes → Bytes → Bool
 can_pong to hash = is_address to && eqb (length hash) 32
 
-abbrev pub pong_body : Bytes → ℕ → Bytes → ℕ → EnrSeq → Bytes
+abbrev pub pong_body : Bytes → ℕ → Bytes → ℕ → Option ℕ → Bytes
 pong_body to to_udp_port hash expiration e = body 2 (pong_items (endpoint to to_udp_port 0) hash expiration (enr_seq_items e))
 
 -- 3 FindNode
@@ -42,17 +40,17 @@ abbrev pub enr_request_body : ℕ → Bytes
 enr_request_body expiration = body 5 (enr_request_items expiration [])
 
 -- 6 ENRResponse: a record is one whole list of at most 300 bytes with its header; its inside is not examined
-abbrev pub is_list_of : Header → ℕ → Bool
-is_list_of (rlp.Item list skip size) n = list && eqb (skip + size) n
-is_list_of rlp.Broken n = false
+abbrev pub is_list_of : Option rlp.Item → ℕ → Bool
+is_list_of (Some i) n = i.list && eqb (i.skip + i.size) n
+is_list_of None n = false
 
 abbrev pub is_record : Bytes → Bool
 is_record r = leb (length r) 300 && is_list_of (head r) (length r)
 
 -- the bytes after a header
-abbrev pub skip_of : Header → ℕ
-skip_of (rlp.Item list skip size) = skip
-skip_of rlp.Broken = 0
+abbrev pub skip_of : Option rlp.Item → ℕ
+skip_of (Some i) = i.skip
+skip_of None = 0
 
 abbrev pub content : Bytes → Bytes
 content r = drop (skip_of (head r)) r

@@ -10,7 +10,6 @@ ghost use Rattle.packet_model.specs.From.{is_sender_address};
 ghost use Rattle.packet_bodies.specs.Parts.{endpoint_items, last_items, node_items, writable_nodes};
 
 use node::Node;
-use packet_model::EnrSeq;
 
 // The third item of `to` in a Ping and a Pong, which is not a field.
 pub const TO_TCP: u16 = 0;
@@ -79,26 +78,26 @@ pub fn put_endpoint(buf: &mut [u8], at: usize, address: &[u8], udp: u16, tcp: u1
 }
 
 // The size of the last items of Ping and Pong: the expiration and, if present, enr-seq.
-pub fn last_size(expiration: u64, enr_seq: EnrSeq) -> usize
+pub fn last_size(expiration: u64, enr_seq: Option<u64>) -> usize
     ensures { (result ≡ length (encodes (last_items expiration enr_seq))) × (result ≤ 18) }
 {
     let size = rlp_write::uint_size(expiration);
     match enr_seq {
-        EnrSeq::Absent => size,
-        EnrSeq::Present(n) => size + rlp_write::uint_size(n),
+        None => size,
+        Some(n) => size + rlp_write::uint_size(n),
     }
 }
 
 // Writes the last items of Ping and Pong.
-pub fn put_last(buf: &mut [u8], at: usize, expiration: u64, enr_seq: EnrSeq) -> usize
+pub fn put_last(buf: &mut [u8], at: usize, expiration: u64, enr_seq: Option<u64>) -> usize
     requires { at + length (encodes (last_items expiration enr_seq)) ≤ length buf.old }
     ensures next { result ≡ at + length (encodes (last_items expiration enr_seq)) }
     ensures bytes { buf.new ≡ store buf.old at (encodes (last_items expiration enr_seq)) }
 {
     let a = rlp_write::write_uint(buf, at, expiration);
     match enr_seq {
-        EnrSeq::Absent => a,
-        EnrSeq::Present(n) => rlp_write::write_uint(buf, a, n),
+        None => a,
+        Some(n) => rlp_write::write_uint(buf, a, n),
     }
 }
 
@@ -120,11 +119,9 @@ fn put_node(buf: &mut [u8], at: usize, node: Node) -> usize
     ensures next { result ≡ at + length (encode (node_item node)) }
     ensures bytes { buf.new ≡ store buf.old at (encode (node_item node)) }
 {
-    let key = node.key;
     let endpoint = node.endpoint;
-    let address = endpoint.address;
-    let n = endpoint.len as usize;
-    put_keyed(buf, at, &address[..n], endpoint.udp, endpoint.tcp, &key)
+    let address = &endpoint.address[..endpoint.len as usize];
+    put_keyed(buf, at, address, endpoint.udp, endpoint.tcp, &node.key)
 }
 
 // The size of a node record.
@@ -133,30 +130,18 @@ fn node_size(node: Node) -> usize
     ensures { (result ≡ length (encode (node_item node))) × (result ≤ 91) }
 {
     let endpoint = node.endpoint;
-    let address = endpoint.address;
-    let n = endpoint.len as usize;
-    68 + fields_size(&address[..n], endpoint.udp, endpoint.tcp)
+    let address = &endpoint.address[..endpoint.len as usize];
+    68 + fields_size(address, endpoint.udp, endpoint.tcp)
 }
 
 // Whether a list of nodes can be written: at most 12, each with an address of 4 or 16 bytes.
 pub fn nodes_writable(list: NodeList) -> bool
     ensures { result ≡ writable_nodes list }
 {
-    let n = list.len;
-    if 12 < n {
-        return false;
-    }
-    let mut i = 0;
-    while i < n {
-        let node = list.nodes[i];
-        let endpoint = node.endpoint;
-        if node::is_address_size(endpoint.len as usize) {
-            i += 1;
-        } else {
-            return false;
-        }
-    }
-    true
+    list.len <= 12
+        && list.nodes[..list.len]
+            .iter()
+            .all(|node| node::is_address_size(node.endpoint.len as usize))
 }
 
 // The size of all nodes of a list.
@@ -164,13 +149,9 @@ pub fn nodes_size(list: NodeList) -> usize
     requires { writable_nodes list ≡ true }
     ensures { (result ≡ length (encodes (node_items list))) × (result ≤ 1092) }
 {
-    let n = list.len;
     let mut size = 0;
-    let mut i = 0;
-    while i < n {
-        let node = list.nodes[i];
-        size += node_size(node);
-        i += 1;
+    for node in &list.nodes[..list.len] {
+        size += node_size(*node);
     }
     size
 }
@@ -181,13 +162,9 @@ pub fn put_nodes(buf: &mut [u8], at: usize, list: NodeList) -> usize
     ensures next { result ≡ at + length (encodes (node_items list)) }
     ensures bytes { buf.new ≡ store buf.old at (encodes (node_items list)) }
 {
-    let n = list.len;
     let mut next = at;
-    let mut i = 0;
-    while i < n {
-        let node = list.nodes[i];
-        next = put_node(buf, next, node);
-        i += 1;
+    for node in &list.nodes[..list.len] {
+        next = put_node(buf, next, *node);
     }
     next
 }

@@ -1,5 +1,6 @@
 -- A datagram is accepted exactly if its type byte and data encode the fields, and the answers of those that are not.
 use Prim.Native.Nat.{ℕ, ◌+◌, ◌≤◌}
+use Rattle.std.specs.Prelude.{Option, Some, None}
 use mathlib.Core.Path.{◌≡◌, refl, sym, ap, subst, ◌∙◌}
 use native.Mathlib.Decide.{dec_lt}
 use native.Mathlib.Omega.{arith}
@@ -9,7 +10,7 @@ use Rattle.octets.proofs.Laws.{slice_drop}
 use Rattle.rlp.proofs.Cases.{by_eqb}
 use Rattle.packet_schema.specs.Schema.{verdict}
 use Rattle.packet_kinds.specs.declared.Verdict.{Verdict}
-use Rattle.packet_kinds.specs.declared.Verdict.TheVariants.{Good, Broken, Wrong}
+use Rattle.packet_kinds.specs.declared.Verdict.TheVariants.{Good, Wrong, Broken}
 use Rattle.packet_schema.proofs.Torn.{broken-torn, torn-broken}
 use Rattle.packet_span.specs.Parts.{bytes_of}
 use Rattle.packet_fields.specs.Spans.{span_of}
@@ -17,8 +18,6 @@ use Rattle.packet.specs.Packets.{type_of, byte_of, required_of, schema_of, packe
 use Rattle.packet.specs.Accepted.{Fields, ping, pong, find_node, neighbors, enr_request, enr_response, fields_of, ping_fields, pong_fields, find_node_fields, neighbors_fields, enr_request_fields, enr_response_fields}
 use Rattle.packet.specs.declared.PacketType.{PacketType}
 use Rattle.packet.specs.declared.PacketType.TheVariants as type
-use Rattle.packet.specs.declared.TypeByte.{TypeByte}
-use Rattle.packet.specs.declared.TypeByte.TheVariants.{Known, Unknown}
 use Rattle.packet.specs.declared.Packet.{Packet}
 use Rattle.packet.specs.declared.Packet.TheVariants as packet
 use Rattle.packet.specs.declared.Parsed.{Parsed}
@@ -31,7 +30,7 @@ use Rattle.packet_datagram.specs.Acceptance.{Reads, EncodedIn, Acceptance, TypeK
 
 -- ---- the type byte
 
-type-of : (t : PacketType) → type_of (byte_of t) ≡ Known t
+type-of : (t : PacketType) → type_of (byte_of t) ≡ Some t
 unfolding type_of
 type-of type.Ping = refl
 type-of type.Pong = refl
@@ -41,9 +40,9 @@ type-of type.EnrRequest = refl
 type-of type.EnrResponse = refl
 
 -- what a type byte is known as
-abbrev Named : ℕ → TypeByte → Type 0
-Named b (Known t) = b ≡ byte_of t
-Named b Unknown = Unit {0}
+abbrev Named : ℕ → Option PacketType → Type 0
+Named b (Some t) = b ≡ byte_of t
+Named b None = Unit {0}
 
 named : (b : ℕ) → Named b (type_of b)
 unfolding type_of
@@ -51,7 +50,7 @@ named b =
     by_eqb (Named b) b 1 (λ e. e) (λ _. by_eqb (Named b) b 2 (λ e. e) (λ _. by_eqb (Named b) b 3 (λ e. e)
     (λ _. by_eqb (Named b) b 4 (λ e. e) (λ _. by_eqb (Named b) b 5 (λ e. e) (λ _. by_eqb (Named b) b 6 (λ e. e) (λ _. tt))))))
 
-by_name : (b : ℕ) (t : PacketType) → type_of b ≡ Known t → b ≡ byte_of t
+by_name : (b : ℕ) (t : PacketType) → type_of b ≡ Some t → b ≡ byte_of t
 by_name b t e = subst (Named b) e (named b)
 
 some_byte : (t : PacketType) → byte_of t ≡ 0 → ⊥
@@ -72,7 +71,7 @@ module _ (g : Bytes) (t : PacketType) (e : get_or g 97 0 ≡ byte_of t) where
 
   reads_as : packet_in g ≡ read_as t 98 (drop 98 g)
   unfolding packet_in
-  reads_as = ap (λ (x : TypeByte). read_typed x 98 (drop 98 g)) (ap type_of e ∙ type-of t)
+  reads_as = ap (λ (x : Option PacketType). read_typed x 98 (drop 98 g)) (ap type_of e ∙ type-of t)
 
 -- ---- accepted
 
@@ -161,9 +160,9 @@ module _ (g : Bytes) where
   answer t b = reads_as g t b
 
   -- the type of an answer other than 8
-  known_by : (x : TypeByte) (y : Parsed) → (parsed.Refused 8 ≡ y → ⊥) → read_typed x 98 d ≡ y → (t : PacketType) × (x ≡ Known t)
-  known_by (Known t) y n e = (t, refl)
-  known_by Unknown y n e = absurd (n e)
+  known_by : (x : Option PacketType) (y : Parsed) → (parsed.Refused 8 ≡ y → ⊥) → read_typed x 98 d ≡ y → (t : PacketType) × (x ≡ Some t)
+  known_by (Some t) y n e = (t, refl)
+  known_by None y n e = absurd (n e)
 
   type-known : (y : Parsed) → (parsed.Refused 8 ≡ y → ⊥) → packet_in g ≡ y → TypeKnown g
   unfolding packet_in
@@ -178,9 +177,9 @@ eight_exactly g = (
   (λ n. go (type_of (get_or g 97 0)) (λ t e. n (t, by_name (get_or g 97 0) t e)) refl),
 )
   where
-    go : (x : TypeByte) → ((t : PacketType) → type_of (get_or g 97 0) ≡ Known t → ⊥) → type_of (get_or g 97 0) ≡ x → packet_in g ≡ parsed.Refused 8
-    go (Known t) n e = absurd (n t e)
-    go Unknown n e = ap (λ (x : TypeByte). read_typed x 98 (drop 98 g)) e
+    go : (x : Option PacketType) → ((t : PacketType) → type_of (get_or g 97 0) ≡ Some t → ⊥) → type_of (get_or g 97 0) ≡ x → packet_in g ≡ parsed.Refused 8
+    go (Some t) n e = absurd (n t e)
+    go None n e = ap (λ (x : Option PacketType). read_typed x 98 (drop 98 g)) e
 
 pub nine_exactly : NineExactly
 nine_exactly g sl = (

@@ -1,11 +1,13 @@
 -- Laws of a datagram's length and hash.
 use Prim.Native.Nat.{◌≤◌, ◌<◌}
+use Rattle.std.specs.Prelude.{nat_eq}
 use mathlib.Core.Path.{◌≡◌, refl, sym, ap, ◌∙◌}
 use mathlib.Core.Bool.{Bool, true, false, ◌&&◌, false≢true}
-use mathlib.Core.List.{[]}
+use mathlib.Core.List.{[], ◌∷◌}
 use native.Mathlib.Omega.{arith}
 use borrow.Author.Tests.{leb-true}
-use lib.Dec.{leb}
+use lib.Dec.{leb, eqb}
+use lib.Pointwise.{pointwise}
 use lib.ListN.{length, drop}
 use Rattle.octets.specs.Octets.{Bytes, same_bytes}
 use Rattle.octets.proofs.Laws.{same_ne}
@@ -22,6 +24,14 @@ pub sized : (g : Bytes) → is_sized g ≡ true → (98 ≤ length g) × (length
 sized g h =
     let r = both_true (leb 98 (length g)) (leb (length g) 1280) h in
     (leb-true 98 (length g) r.0, leb-true (length g) 1280 r.1)
+
+-- what `==` says of two byte strings
+pub equal_bytes : (s t : Bytes) → pointwise nat_eq s t ≡ same_bytes s t
+unfolding same_bytes
+equal_bytes [] [] = refl
+equal_bytes [] (b ∷ t) = refl
+equal_bytes (a ∷ s) [] = refl
+equal_bytes (a ∷ s) (b ∷ t) = ap (λ (x : Bool). eqb a b && x) (equal_bytes s t)
 
 -- a datagram that is too short for a hash
 pub short_hash : (g : Bytes) → length g < 32 → false ≡ hash_matches g

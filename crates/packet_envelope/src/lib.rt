@@ -10,11 +10,7 @@ use packet_span::Span;
 pub fn is_sized(datagram: &[u8]) -> bool
     ensures { result ≡ is_sized datagram.now }
 {
-    if 98 <= datagram.len() {
-        datagram.len() <= 1280
-    } else {
-        false
-    }
+    (98..=1280).contains(&datagram.len())
 }
 
 // The packet's hash; nothing of a datagram that is too short.
@@ -39,5 +35,5 @@ pub fn hash_matches(datagram: &[u8]) -> bool
         return false;
     }
     let hash = keccak::keccak256(&datagram[32..]);
-    octets::same_bytes(hash_part(datagram), &hash)
+    hash_part(datagram) == hash.as_slice()
 }

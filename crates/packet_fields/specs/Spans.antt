@@ -1,22 +1,19 @@
 -- Items of a list's payload by their number: where they lie, and their values.
-use Rattle.std.specs.Prelude.{ℕ, ◌+◌, cond, List, [], map, leb, ltb, drop, length, get_or, replicate}
+use Rattle.std.specs.Prelude.{ℕ, ◌+◌, cond, List, [], Option, Some, None, map, leb, ltb, drop, length, get_or, replicate}
+use Rattle.std.specs.Option.{unwrap_or}
 use Rattle.octets.specs.Octets.{Bytes, store}
 use Rattle.rlp.specs.Encoding.{Item, string, payload_of}
 use Rattle.rlp.specs.Reading.{head, extent, offset, count, uint_of}
-use Rattle.rlp.specs.declared.Header.{Header}
-use Rattle.rlp.specs.declared.Header.TheVariants as read
-use Rattle.rlp.specs.declared.Uint as rlp-uint
-use Rattle.rlp.specs.declared.Uint.TheVariants as uint
+use Rattle.rlp.specs.declared.Item as read
 use Rattle.packet_kinds.specs.Payload.{items_of}
 use Rattle.node.specs.declared.Node.{Node}
-use Rattle.packet_model.specs.declared.EnrSeq.{EnrSeq}
-use Rattle.packet_model.specs.declared.EnrSeq.TheVariants.{Absent, Present}
+use Rattle.std.specs.Prelude.{Option, Some, None}
 use Rattle.packet_span.specs.declared.Span.{Span}
 
 -- the payload of the item whose header is at `at`
-abbrev pub payload_span : Header → ℕ → Span
-payload_span (read.Item list skip size) at = record { start = at + skip; len = size }
-payload_span read.Broken at = record { start = at; len = 0 }
+abbrev pub payload_span : Option read.Item → ℕ → Span
+payload_span (Some i) at = record { start = at + i.skip; len = i.size }
+payload_span None at = record { start = at; len = 0 }
 
 -- the payload of item n of the payload s
 unfoldable pub span_of : ℕ → Bytes → Span
@@ -30,9 +27,9 @@ item_span n s = record { start = offset n s; len = extent (head (drop (offset n 
 abbrev pub item_at : ℕ → Bytes → Item
 item_at n s = get_or (items_of s) n (string [])
 
-abbrev pub value_of : rlp-uint.Uint → ℕ
-value_of (uint.Value v) = v
-value_of uint.NotAnInteger = 0
+-- the integer that was read; 0 where it is none
+abbrev pub value_of : Option ℕ → ℕ
+value_of u = unwrap_or u 0
 
 -- the integer that item n of the payload s is; 0 where it is none
 unfoldable pub uint_item : ℕ → Bytes → ℕ
@@ -43,8 +40,8 @@ unfoldable pub port_item : ℕ → Bytes → ℕ
 port_item n s = cond (leb (uint_item n s) 65535) (uint_item n s) 0
 
 -- the integer that item n of the payload s is, where there is an item n
-unfoldable pub enr_seq_item : ℕ → Bytes → EnrSeq
-enr_seq_item n s = cond (ltb n (count s)) (Present (uint_item n s)) Absent
+unfoldable pub enr_seq_item : ℕ → Bytes → Option ℕ
+enr_seq_item n s = cond (ltb n (count s)) (Some (uint_item n s)) None
 
 -- at most n bytes
 abbrev pub fitting : ℕ → Bytes → Bytes

@@ -7,26 +7,20 @@ ghost use Rattle.packet_span.specs.Parts.{bytes_of};
 ghost use Rattle.packet_fields.specs.Spans.{span_of, item_span, uint_item, port_item, enr_seq_item, fitting, node_of, nodes_of, node_at};
 
 use node::{Endpoint, Node};
-use packet_model::EnrSeq;
 use packet_span::{Span, bytes_of};
-use rlp::{Header, Uint};
 
 // The payload of item `n` of the payload `s`.
+#[tactic(auto, using(rlp::proofs::Reading::offset_bound, rlp::proofs::Reading::item_ends))]
 pub fn item_payload(s: &[u8], n: usize) -> Span
     ensures { result ≡ span_of n s.now }
 {
     let at = rlp::item_offset(s, n);
-    let Header::Item {
-        list: _,
-        skip,
-        size,
-    } = rlp::read_header(&s[at..])
-    else {
+    let Some(item) = rlp::read_header(&s[at..]) else {
         return Span { start: at, len: 0 };
     };
     Span {
-        start: at + skip,
-        len: size,
+        start: at + item.skip,
+        len: item.size,
     }
 }
 
@@ -46,27 +40,24 @@ pub fn item_span(s: &[u8], n: usize) -> Span
 pub fn uint_item(s: &[u8], n: usize) -> u64
     ensures { result ≡ uint_item n s.now }
 {
-    match rlp::read_uint(bytes_of(s, item_payload(s, n))) {
-        Uint::Value(v) => v,
-        Uint::NotAnInteger => 0,
-    }
+    rlp::read_uint(bytes_of(s, item_payload(s, n))).unwrap_or(0)
 }
 
 // The same where it fits 16 bits, else 0.
+#[tactic(auto, unfolding(crate::specs::Spans::port_item))]
 pub fn port_item(s: &[u8], n: usize) -> u16
     ensures { result ≡ port_item n s.now }
 {
-    let v = uint_item(s, n);
-    if v <= 65535 { v as u16 } else { 0 }
+    u16::try_from(uint_item(s, n)).unwrap_or(0)
 }
 
-pub fn enr_seq_item(s: &[u8], n: usize) -> EnrSeq
+pub fn enr_seq_item(s: &[u8], n: usize) -> Option<u64>
     ensures { result ≡ enr_seq_item n s.now }
 {
     if n < rlp::item_count(s) {
-        EnrSeq::Present(uint_item(s, n))
+        Some(uint_item(s, n))
     } else {
-        EnrSeq::Absent
+        None
     }
 }
 

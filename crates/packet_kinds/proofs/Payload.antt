@@ -1,5 +1,6 @@
 -- Laws of a payload's items.
 use Prim.Native.Nat.{ℕ, zero, suc, pred, ◌+◌, ◌≤◌, ◌<◌}
+use Rattle.std.specs.Prelude.{Option, Some, None}
 use mathlib.Core.Path.{◌≡◌, refl, sym, ap, subst, ◌∙◌}
 use mathlib.Core.Bool.{Bool, true, false}
 use mathlib.Core.List.{List, [], ◌∷◌, ◌++◌}
@@ -9,11 +10,10 @@ use lib.ListN.{length, drop, length-drop}
 use Rattle.octets.specs.Octets.{Bytes, Slice, part}
 use Rattle.octets.proofs.Laws.{slice_drop, slice_part}
 use Rattle.rlp.specs.Encoding.{Item, string, list, encode, encodes, item_of, is_list, payload_of, prefix, Small}
-use Rattle.rlp.specs.Reading.{head, extent, whole, count}
+use Rattle.rlp.specs.Reading.{item, head, extent, whole, count}
 use Rattle.rlp.proofs.Reading.{item-bounds, drop_item, count_next, count_broken}
 use Rattle.rlp.proofs.Encoding.{read_item, read_payload, read_rest, small-first, small-rest, small_items, whole_is_encodes}
-use Rattle.rlp.specs.declared.Header.{Header}
-use Rattle.rlp.specs.declared.Header.TheVariants as read
+use Rattle.rlp.specs.declared.Item as read
 use Rattle.packet_kinds.specs.Payload.{cons_item, items_after, items_of}
 
 -- the bytes to pass over first are dropped
@@ -27,20 +27,20 @@ unfolding items_of
 items_none = refl
 
 -- the item at the front, and then the others
-pub items_item : (s : Bytes) {l : Bool} {skip size : ℕ} → head s ≡ read.Item l skip size → items_of s ≡ item_of l (part s skip size) ∷ items_of (drop (skip + size) s)
+pub items_item : (s : Bytes) {l : Bool} {skip size : ℕ} → head s ≡ item l skip size → items_of s ≡ item_of l (part s skip size) ∷ items_of (drop (skip + size) s)
 unfolding items_of
 items_item [] {l} {skip} {size} e = absurd (let b = item-bounds [] e in omega arith)
 items_item (b ∷ s) {l} {skip} {size} e =
     let n : ℕ = skip + size in
     let bnd : (0 < n) × (n ≤ suc (length s)) = item-bounds (b ∷ s) e in
     let m : n ≡ suc (pred n) = omega arith in
-    ap (λ (h : Header). cons_item h (b ∷ s) (items_after (pred (extent h)) s)) e
+    ap (λ (h : Option read.Item). cons_item h (b ∷ s) (items_after (pred (extent h)) s)) e
     ∙ ap (λ (is : List Item). item_of l (part (b ∷ s) skip size) ∷ is) (items_drop (pred n) s (omega arith) ∙ ap (λ (k : ℕ). items_after 0 (drop k (b ∷ s))) (sym m))
 
-pub items_broken : (s : Bytes) → head s ≡ read.Broken → items_of s ≡ []
+pub items_broken : (s : Bytes) → head s ≡ None → items_of s ≡ []
 unfolding items_of
 items_broken [] e = refl
-items_broken (b ∷ s) e = ap (λ (h : Header). cons_item h (b ∷ s) (items_after (pred (extent h)) s)) e
+items_broken (b ∷ s) e = ap (λ (h : Option read.Item). cons_item h (b ∷ s) (items_after (pred (extent h)) s)) e
 
 item_is : (i : Item) → item_of (is_list i) (payload_of i) ≡ i
 item_is (string s) = refl
@@ -64,28 +64,28 @@ encodes_items s sl w =
     ap encodes (ap items_of (sym r.1) ∙ items_encodes r.0 (small_items r.0 s sl r.1)) ∙ r.1
 
 -- the items from `at` on: the one that was read there, and those after it
-pub items_at : (s : Bytes) (at : ℕ) {l : Bool} {skip size : ℕ} → head (drop at s) ≡ read.Item l skip size
+pub items_at : (s : Bytes) (at : ℕ) {l : Bool} {skip size : ℕ} → head (drop at s) ≡ item l skip size
     → items_of (drop at s) ≡ item_of l (part (drop at s) skip size) ∷ items_of (drop (at + skip + size) s)
 items_at s at {l} {skip} {size} e =
     items_item (drop at s) e
     ∙ ap (λ (t : Bytes). item_of l (part (drop at s) skip size) ∷ items_of t) (drop_item s at skip size)
 
 -- induction over the items of a payload
-items_up : (P : Bytes → Type 0) → ((s : Bytes) → head s ≡ read.Broken → P s)
-    → ((s : Bytes) (l : Bool) (skip size : ℕ) → head s ≡ read.Item l skip size → P (drop (skip + size) s) → P s) → (fuel : ℕ) (s : Bytes) → length s ≤ fuel → P s
+items_up : (P : Bytes → Type 0) → ((s : Bytes) → head s ≡ None → P s)
+    → ((s : Bytes) (l : Bool) (skip size : ℕ) → head s ≡ item l skip size → P (drop (skip + size) s) → P s) → (fuel : ℕ) (s : Bytes) → length s ≤ fuel → P s
 items_up P none one zero s h = go (head s) refl
   where
-    go : (x : Header) → head s ≡ x → P s
-    go (read.Item l skip size) e = absurd (let b = item-bounds s e in omega arith)
-    go read.Broken e = none s e
+    go : (x : Option read.Item) → head s ≡ x → P s
+    go (Some i) e = absurd (let b = item-bounds s e in omega arith)
+    go None e = none s e
 items_up P none one (suc fuel) s h = go (head s) refl (λ k p. items_up P none one fuel (drop k s) p)
   where
-    go : (x : Header) → head s ≡ x → ((k : ℕ) → length (drop k s) ≤ fuel → P (drop k s)) → P s
-    go (read.Item l skip size) e more = one s l skip size e (more (skip + size) (let b = item-bounds s e in omega (arith, length-drop (skip + size) s)))
-    go read.Broken e more = none s e
+    go : (x : Option read.Item) → head s ≡ x → ((k : ℕ) → length (drop k s) ≤ fuel → P (drop k s)) → P s
+    go (Some i) e more = one s i.list i.skip i.size e (more (i.skip + i.size) (let b = item-bounds s e in omega (arith, length-drop (i.skip + i.size) s)))
+    go None e more = none s e
 
-pub items_ind : (P : Bytes → Type 0) → ((s : Bytes) → head s ≡ read.Broken → P s)
-    → ((s : Bytes) (l : Bool) (skip size : ℕ) → head s ≡ read.Item l skip size → P (drop (skip + size) s) → P s) → (s : Bytes) → P s
+pub items_ind : (P : Bytes → Type 0) → ((s : Bytes) → head s ≡ None → P s)
+    → ((s : Bytes) (l : Bool) (skip size : ℕ) → head s ≡ item l skip size → P (drop (skip + size) s) → P s) → (s : Bytes) → P s
 items_ind P none one s = items_up P none one (length s) s (omega arith)
 
 -- the number of items

@@ -1,17 +1,14 @@
 -- What a kind asks of one item, and the verdict on it.
-use Rattle.std.specs.Prelude.{ℕ, Bool, true, false, cond, ◌&&◌, ◌||◌, List, [], ◌∷◌, length, leb, eqb}
+use Rattle.std.specs.Prelude.{ℕ, Bool, true, false, cond, ◌&&◌, List, [], ◌∷◌, Option, Some, None, length, leb, eqb}
 use Rattle.node.specs.Nodes.{is_address}
 use Rattle.packet_model.specs.From.{is_sender_address}
-use Rattle.octets.specs.Octets as octets
 use Rattle.rlp.specs.Encoding.{Item, string, list, encode}
 use Rattle.rlp.specs.Reading.{whole, uint_of}
-use Rattle.rlp.specs.declared.Uint as rlp-uint
-use Rattle.rlp.specs.declared.Uint.TheVariants as uint
 use Rattle.packet_kinds.specs.Payload.{items_of}
 use Rattle.packet_kinds.specs.declared.Kind.{Kind}
 use Rattle.packet_kinds.specs.declared.Kind.TheVariants.{Uint, Bytes, Address, SenderAddress, Endpoint, Sender, Nodes, Record}
 use Rattle.packet_kinds.specs.declared.Verdict.{Verdict}
-use Rattle.packet_kinds.specs.declared.Verdict.TheVariants.{Good, Broken, Wrong}
+use Rattle.packet_kinds.specs.declared.Verdict.TheVariants.{Good, Wrong, Broken}
 
 -- the verdict of two: 9 anywhere goes before 10 anywhere
 abbrev pub worst : Verdict → Verdict → Verdict
@@ -25,9 +22,9 @@ abbrev pub good_if : Bool → Verdict
 good_if true = Good
 good_if false = Wrong
 
-abbrev pub at_most : rlp-uint.Uint → ℕ → Bool
-at_most (uint.Value v) max = leb v max
-at_most uint.NotAnInteger max = false
+abbrev pub at_most : Option ℕ → ℕ → Bool
+at_most (Some v) max = leb v max
+at_most None max = false
 
 -- an item is the string that kind asks
 abbrev pub is_leaf : Kind → Item → Bool

@@ -1,15 +1,14 @@
 -- The items of a list's payload.
-use Rattle.std.specs.Prelude.{ℕ, zero, suc, pred, List, [], ◌∷◌}
+use Rattle.std.specs.Prelude.{ℕ, zero, suc, pred, List, [], ◌∷◌, Option, Some, None}
 use Rattle.octets.specs.Octets.{Bytes, part}
 use Rattle.rlp.specs.Encoding.{Item, item_of}
 use Rattle.rlp.specs.Reading.{head, extent}
-use Rattle.rlp.specs.declared.Header.{Header}
-use Rattle.rlp.specs.declared.Header.TheVariants as read
+use Rattle.rlp.specs.declared.Item as read
 
--- the item of the header at the front of s, and then others
-abbrev pub cons_item : Header → Bytes → List Item → List Item
-cons_item (read.Item list skip size) s others = item_of list (part s skip size) ∷ others
-cons_item read.Broken s others = []
+-- the item at the front of s, and then others
+abbrev pub cons_item : Option read.Item → Bytes → List Item → List Item
+cons_item (Some i) s others = item_of i.list (part s i.skip i.size) ∷ others
+cons_item None s others = []
 
 -- the items of s after its next n bytes, up to the first that is not whole and canonical
 abbrev pub items_after : ℕ → Bytes → List Item

@@ -1,15 +1,13 @@
 // What one item of a packet's data must be: an integer, a string, an endpoint, a node, a record.
 #![tactic(auto)]
 
-ghost use Rattle.std.specs.Prelude.{◌≡◌, ◌≤◌, [], take};
+ghost use Rattle.std.specs.Prelude.{◌≡◌, []};
 ghost use Rattle.rlp.specs.Encoding.{item_of};
 ghost use Rattle.packet_kinds.specs.Payload.{items_of};
 ghost use Rattle.packet_kinds.specs.Kinds as spec;
 
-use rlp::{Header, Uint};
-
 // What an item must be.
-#[derive(Clone, Copy)]
+#[derive(Clone, Copy, Debug, PartialEq, Eq)]
 pub enum Kind {
     // An integer of at most this.
     Uint(u64),
@@ -29,31 +27,24 @@ pub enum Kind {
     Record,
 }
 
-// Whether items are what a schema asks.
-#[derive(Clone, Copy)]
+// Whether items are what a schema asks, the worse the greater.
+#[derive(Clone, Copy, Debug, PartialEq, Eq, PartialOrd, Ord)]
 pub enum Verdict {
     Good,
-    // An item that is not whole or not canonical: answer 9.
-    Broken,
     // A field that is missing or of the wrong kind: answer 10.
     Wrong,
+    // An item that is not whole or not canonical: answer 9.
+    Broken,
 }
 
 // The largest port.
 const PORT: u64 = 65535;
+
 // The verdict of two: broken before wrong.
 pub fn worst(a: Verdict, b: Verdict) -> Verdict
     ensures { result ≡ spec.worst a b }
 {
-    match a {
-        Verdict::Good => b,
-        Verdict::Broken => Verdict::Broken,
-        Verdict::Wrong => match b {
-            Verdict::Good => Verdict::Wrong,
-            Verdict::Broken => Verdict::Broken,
-            Verdict::Wrong => Verdict::Wrong,
-        },
-    }
+    a.max(b)
 }
 
 pub fn good_if(ok: bool) -> Verdict
@@ -70,10 +61,7 @@ pub fn is_leaf(kind: Kind, list: bool, p: &[u8]) -> bool
         return false;
     }
     match kind {
-        Kind::Uint(max) => match rlp::read_uint(p) {
-            Uint::Value(v) => v <= max,
-            Uint::NotAnInteger => false,
-        },
+        Kind::Uint(max) => rlp::read_uint(p).is_some_and(|v| v <= max),
         Kind::Bytes(n) => p.len() == n,
         Kind::Address => node::is_address_size(p.len()),
         Kind::SenderAddress => packet_model::is_sender_size(p.len()),
@@ -84,52 +72,41 @@ pub fn is_leaf(kind: Kind, list: bool, p: &[u8]) -> bool
     }
 }
 
-// Whether the items of the payload `s` are the strings that the first `n` kinds ask, one for one.
-fn leaves(s: &[u8], kinds: [Kind; 4], n: usize) -> bool
-    requires { n ≤ 4 }
-    ensures { result ≡ spec.leaves (take n kinds) (items_of s.now) }
+// Whether the items of the payload `s` are the strings that `kinds` ask, one for one.
+#[tactic(auto, using(rlp::proofs::Reading::item_ends))]
+fn leaves(s: &[u8], kinds: &[Kind]) -> bool
+    ensures { result ≡ spec.leaves kinds.now (items_of s.now) }
 {
     let mut at = 0;
-    let mut i = 0;
-    while i < n {
-        let kind = kinds[i];
-        let Header::Item { list, skip, size } = rlp::read_header(&s[at..]) else {
+    for kind in kinds {
+        let Some(item) = rlp::read_header(&s[at..]) else {
             return false;
         };
-        let start = at + skip;
-        let end = start + size;
-        if is_leaf(kind, list, &s[start..end]) {
-            at = end;
-            i += 1;
-        } else {
+        let start = at + item.skip;
+        let end = start + item.size;
+        if !is_leaf(*kind, item.list, &s[start..end]) {
             return false;
         }
+        at = end;
     }
     is_end(&s[at..])
 }
 
 // Whether no item is at the front of `s`.
+#[tactic(auto, using(crate::proofs::ItemTurns::no_leaves))]
 fn is_end(s: &[u8]) -> bool
     ensures { result ≡ spec.leaves [] (items_of s.now) }
 {
-    match rlp::read_header(s) {
-        Header::Item {
-            list: _,
-            skip: _,
-            size: _,
-        } => false,
-        Header::Broken => true,
-    }
+    rlp::read_header(s).is_none()
 }
 
-// Whether an item is a list of exactly the strings that the first `n` kinds ask.
-fn tuple(list: bool, p: &[u8], kinds: [Kind; 4], n: usize) -> Verdict
-    requires { n ≤ 4 }
-    ensures { result ≡ spec.tuple (take n kinds) (item_of list p.now) }
+// Whether an item is a list of exactly the strings that `kinds` ask.
+fn tuple(list: bool, p: &[u8], kinds: &[Kind]) -> Verdict
+    ensures { result ≡ spec.tuple kinds.now (item_of list p.now) }
 {
     if list {
         if rlp::items_whole(p) {
-            good_if(leaves(p, kinds, n))
+            good_if(leaves(p, kinds))
         } else {
             Verdict::Broken
         }
@@ -142,29 +119,25 @@ pub fn endpoint(list: bool, p: &[u8]) -> Verdict
     ensures { result ≡ spec.tuple spec.endpoint (item_of list p.now) }
 {
     let port = Kind::Uint(PORT);
-    tuple(list, p, [Kind::Address, port, port, port], 3)
+    tuple(list, p, &[Kind::Address, port, port])
 }
 
 pub fn sender(list: bool, p: &[u8]) -> Verdict
     ensures { result ≡ spec.tuple spec.sender (item_of list p.now) }
 {
     let port = Kind::Uint(PORT);
-    tuple(list, p, [Kind::SenderAddress, port, port, port], 3)
+    tuple(list, p, &[Kind::SenderAddress, port, port])
 }
 
 pub fn node(list: bool, p: &[u8]) -> Verdict
     ensures { result ≡ spec.tuple spec.node (item_of list p.now) }
 {
     let port = Kind::Uint(PORT);
-    tuple(list, p, [Kind::Address, port, port, Kind::Bytes(64)], 4)
+    tuple(list, p, &[Kind::Address, port, port, Kind::Bytes(64)])
 }
 
 pub fn is_record(list: bool, p: &[u8]) -> bool
     ensures { result ≡ spec.is_record_item (item_of list p.now) }
 {
-    if list {
-        rlp::header_size(p.len()) + p.len() <= 300
-    } else {
-        false
-    }
+    list && rlp::header_size(p.len()) + p.len() <= 300
 }

@@ -1,5 +1,5 @@
 -- A packet of the form that is written, written anew with its signature, is the same bytes.
-use Prim.Native.Nat.{ℕ, ◌+◌, ◌≤◌, ◌<◌, ◌^◌}
+use Prim.Native.Nat.{ℕ, ◌≤◌, ◌<◌, ◌^◌}
 use mathlib.Core.Path.{◌≡◌, refl, sym, ap, ◌∙◌}
 use mathlib.Core.Bool.{true}
 use mathlib.Core.List.{List, [], ◌∷◌, ◌++◌, map}
@@ -14,8 +14,7 @@ use Rattle.lists.proofs.Laws.{nil}
 use Rattle.rlp.specs.Encoding.{Item, string, list, encode}
 use Rattle.packet_model.specs.Items.{data_of, uint, endpoint, ping_items, pong_items, find_node_items, neighbors_items, enr_request_items, enr_response_items, enr_seq_items, node_item}
 use Rattle.packet_model.specs.From.{from_bytes}
-use Rattle.packet_model.specs.declared.EnrSeq.{EnrSeq}
-use Rattle.packet_model.specs.declared.EnrSeq.TheVariants.{Absent, Present}
+use Rattle.std.specs.Prelude.{Option, Some, None}
 use Rattle.packet_schema.proofs.Torn.{slices-begun}
 use Rattle.packet_span.proofs.Parts.{bytes_in}
 use Rattle.packet.specs.Accepted.{trailing, Fields, ping, pong, find_node, neighbors, enr_request, enr_response, type_of_fields, PingEncoded, PongEncoded, EnrResponseEncoded}
@@ -60,9 +59,9 @@ module _ (g : Bytes) (long : 98 ≤ length g) where
 
 -- ---- the six packets
 
-trailing_is : (e : EnrSeq) (more : List Item) → length (trailing e more) ≤ 1 → trailing e more ≡ enr_seq_items e
-trailing_is Absent more h = refl
-trailing_is (Present n) more h = ap (λ (l : List Item). uint n ∷ l) (nil more (omega arith))
+trailing_is : (e : Option ℕ) (more : List Item) → length (trailing e more) ≤ 1 → trailing e more ≡ enr_seq_items e
+trailing_is None more h = refl
+trailing_is (Some n) more h = ap (λ (l : List Item). uint n ∷ l) (nil more (omega arith))
 
 module _ (g : Bytes) (sl : Slice g) (long : 98 ≤ length g) where
   -- fields that can be written, and the body that the datagram has

@@ -18,8 +18,7 @@ use Rattle.rlp.proofs.Writing.{header_short, header-long}
 use Rattle.rlp.proofs.Encoding.{encode_is, small-first, small-rest}
 use Rattle.packet_model.specs.Items.{data_of, uint, endpoint, enr_seq_items, node_item}
 use Rattle.packet_model.specs.From.{from_bytes}
-use Rattle.packet_model.specs.declared.EnrSeq.{EnrSeq}
-use Rattle.packet_model.specs.declared.EnrSeq.TheVariants.{Absent, Present}
+use Rattle.std.specs.Prelude.{Option, Some, None}
 use Rattle.packet.specs.Packets.{byte_of}
 use Rattle.packet.specs.Accepted.{Fields, ping, pong, find_node, neighbors, enr_request, enr_response, type_of_fields}
 use Rattle.packet.specs.declared.PacketType.{PacketType}
@@ -80,9 +79,9 @@ nodes_bytes (n ∷ ns) b =
       nodes_bytes ns b.1,
     )
 
-last_bytes : (x : ℕ) (e : EnrSeq) → OfBytes (uint x ∷ enr_seq_items e)
-last_bytes x Absent = ((λ _. uint_is_bytes x), tt)
-last_bytes x (Present n) = ((λ _. uint_is_bytes x), ((λ _. uint_is_bytes n), tt))
+last_bytes : (x : ℕ) (e : Option ℕ) → OfBytes (uint x ∷ enr_seq_items e)
+last_bytes x None = ((λ _. uint_is_bytes x), tt)
+last_bytes x (Some n) = ((λ _. uint_is_bytes x), ((λ _. uint_is_bytes n), tt))
 
 -- ---- a body
 

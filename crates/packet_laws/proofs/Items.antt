@@ -7,8 +7,7 @@ use lib.ListN.{length}
 use Rattle.rlp.specs.Encoding.{Item}
 use Rattle.packet_model.specs.Items.{endpoint, ping_items, pong_items, find_node_items, neighbors_items, enr_request_items, enr_response_items, enr_seq_items, node_item}
 use Rattle.packet_model.specs.From.{from_bytes}
-use Rattle.packet_model.specs.declared.EnrSeq.{EnrSeq}
-use Rattle.packet_model.specs.declared.EnrSeq.TheVariants.{Absent, Present}
+use Rattle.std.specs.Prelude.{ℕ, Option, Some, None}
 use Rattle.packet.specs.Packets.{byte_of, schema_of}
 use Rattle.packet.specs.Accepted.{Fields, ping, pong, find_node, neighbors, enr_request, enr_response, type_of_fields}
 use Rattle.packet_bodies.specs.Parts.{body}
@@ -32,9 +31,9 @@ body_is (neighbors f) = refl
 body_is (enr_request f) = refl
 body_is (enr_response f) = refl
 
-seq_most : (e : EnrSeq) → length (enr_seq_items e) ≤ 1
-seq_most Absent = omega arith
-seq_most (Present n) = omega arith
+seq_most : (e : Option ℕ) → length (enr_seq_items e) ≤ 1
+seq_most None = omega arith
+seq_most (Some n) = omega arith
 
 -- they are all known
 pub all_known : (f : Fields) → length (written_items f) ≤ length (schema_of (type_of_fields f))

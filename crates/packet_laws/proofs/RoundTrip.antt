@@ -14,8 +14,7 @@ use Rattle.keccak.specs.Sponge.{keccak256}
 use Rattle.keccak.proofs.Laws.{keccak256-length, keccak256_bytes}
 use Rattle.rlp.specs.Encoding.{Item}
 use Rattle.packet_model.specs.Items.{data_of, endpoint, ping_items, pong_items, enr_seq_items}
-use Rattle.packet_model.specs.declared.EnrSeq.{EnrSeq}
-use Rattle.packet_model.specs.declared.EnrSeq.TheVariants.{Absent, Present}
+use Rattle.std.specs.Prelude.{Option, Some, None}
 use Rattle.packet_model.specs.From.{from_bytes}
 use Rattle.packet_schema.specs.Shapes.{Begins}
 use Rattle.packet.specs.Packets.{byte_of, schema_of}
@@ -95,9 +94,9 @@ module _ (s : Bytes) (kind : ℕ) (data' : Bytes) (sized : length s ≡ 65) wher
 
 -- ---- the six packets
 
-trailing-nil : (e : EnrSeq) → trailing e [] ≡ enr_seq_items e
-trailing-nil Absent = refl
-trailing-nil (Present n) = refl
+trailing-nil : (e : Option ℕ) → trailing e [] ≡ enr_seq_items e
+trailing-nil None = refl
+trailing-nil (Some n) = refl
 
 module _ (s : Bytes) (sized : length s ≡ 65) where
   -- the data of a packet begins with its items

@@ -14,11 +14,10 @@ use Rattle.node.specs.declared.Node.{Node}
 use Rattle.rlp.specs.Encoding.{Item, list, header, encode, encodes}
 use Rattle.rlp.proofs.Numbers.{length-uint, width_more, width_least}
 use Rattle.rlp.proofs.Writing.{header_short, header-long, encode_list, uint_size_small, uint_size_large}
-use Rattle.packet_model.specs.Items.{uint, endpoint, node, ping_items, pong_items, find_node_items, neighbors_items, enr_request_items, enr_response_items, enr_seq_items, node_item}
+use Rattle.packet_model.specs.Items.{uint, endpoint, ping_items, pong_items, find_node_items, neighbors_items, enr_request_items, enr_response_items, enr_seq_items, node_item}
 use Rattle.packet_model.specs.From.{is_sender_address, from_bytes}
 use Rattle.packet_model.proofs.From.{address_range, address_sender, from_sender}
-use Rattle.packet_model.specs.declared.EnrSeq.{EnrSeq}
-use Rattle.packet_model.specs.declared.EnrSeq.TheVariants.{Absent, Present}
+use Rattle.std.specs.Prelude.{Option, Some, None}
 use Rattle.packet.specs.Accepted.{SeqFits, NodeGood, NodesGood, Fields, ping, pong, find_node, neighbors, enr_request, enr_response}
 use Rattle.packet_bodies.specs.Parts.{body}
 use Rattle.lists.proofs.Laws.{and_left, and_right}
@@ -53,9 +52,9 @@ body_bound : (k kind : ℕ) (items : List Item) → length (encodes items) < 256
 body_bound k kind items h = omega (arith, body-length kind items, header-width 0xc0 k (length (encodes items)) h)
 
 -- the parts at their largest
-last_bound : (x : ℕ) (e : EnrSeq) → x < 2 ^ 64 → SeqFits e → length (encodes (uint x ∷ enr_seq_items e)) ≤ 18
-last_bound x Absent hx h = omega (arith, total_size (uint x ∷ []), uint-width 8 x (omega arith) hx)
-last_bound x (Present n) hx h =
+last_bound : (x : ℕ) (e : Option ℕ) → x < 2 ^ 64 → SeqFits e → length (encodes (uint x ∷ enr_seq_items e)) ≤ 18
+last_bound x None hx h = omega (arith, total_size (uint x ∷ []), uint-width 8 x (omega arith) hx)
+last_bound x (Some n) hx h =
     omega (arith, total_size (uint x ∷ uint n ∷ []), uint-width 8 x (omega arith) hx, uint-width 8 n (omega arith) h)
 
 endpoint_bound : (a : Bytes) (u t : ℕ) → is_sender_address a ≡ true → u < 2 ^ 16 → t < 2 ^ 16 → length (encode (endpoint a u t)) ≤ 24
@@ -82,7 +81,7 @@ expiration_bound : (x : ℕ) → x < 2 ^ 64 → length (encode (uint x)) ≤ 9
 expiration_bound x h = omega (arith, uint-width 8 x (omega arith) h)
 
 -- each of the six
-pub ping_bound : (f : Bytes) (fu ft : ℕ) (t : Bytes) (tu x : ℕ) (e : EnrSeq) → can_ping f t ≡ true → fu < 2 ^ 16 → ft < 2 ^ 16 → tu < 2 ^ 16 → x < 2 ^ 64 → SeqFits e
+pub ping_bound : (f : Bytes) (fu ft : ℕ) (t : Bytes) (tu x : ℕ) (e : Option ℕ) → can_ping f t ≡ true → fu < 2 ^ 16 → ft < 2 ^ 16 → tu < 2 ^ 16 → x < 2 ^ 64 → SeqFits e
     → length (body 1 (ping_items 4 (endpoint f fu ft) (endpoint t tu 0) x (enr_seq_items e))) ≤ 68
 ping_bound f fu ft t tu x e ok hfu hft htu hx he =
     let items : List Item = ping_items 4 (endpoint f fu ft) (endpoint t tu 0) x (enr_seq_items e) in
@@ -97,7 +96,7 @@ ping_bound f fu ft t tu x e ok hfu hft htu hx he =
     ) in
     omega (arith, body_bound 1 1 items (omega arith))
 
-pub pong_bound : (t : Bytes) (tu : ℕ) (hash : Bytes) (x : ℕ) (e : EnrSeq) → can_pong t hash ≡ true → tu < 2 ^ 16 → x < 2 ^ 64 → SeqFits e
+pub pong_bound : (t : Bytes) (tu : ℕ) (hash : Bytes) (x : ℕ) (e : Option ℕ) → can_pong t hash ≡ true → tu < 2 ^ 16 → x < 2 ^ 64 → SeqFits e
     → length (body 2 (pong_items (endpoint t tu 0) hash x (enr_seq_items e))) ≤ 76
 pong_bound t tu hash x e ok htu hx he =
     let items : List Item = pong_items (endpoint t tu 0) hash x (enr_seq_items e) in

@@ -12,7 +12,7 @@ use Rattle.node.specs.declared.Node.{Node}
 use Rattle.node.specs.Nodes.{address_of, is_address, is_address_size}
 use Rattle.rlp.specs.Encoding.{Item}
 use Rattle.packet_model.specs.Items.{node, neighbors_items, node_item}
-use Rattle.packet_model.specs.From.{is_sender_address, from_said}
+use Rattle.packet_model.specs.From.{is_sender_address}
 use Rattle.packet_model.proofs.From.{address_range, said_bytes, said_good}
 use Rattle.packet_fields.specs.Spans.{padded}
 use Rattle.packet.specs.Accepted.{NodeGood, NodesGood, Fields}

@@ -1,9 +1,8 @@
 -- The bodies that the six writers write, from values of their types, and the fields that these are.
-use Rattle.std.specs.Prelude.{ℕ, ◌<◌, ◌^◌, ◌≡◌, true, List, [], ◌∷◌, map, length}
+use Rattle.std.specs.Prelude.{ℕ, ◌<◌, ◌^◌, ◌≡◌, true, List, [], ◌∷◌, map, length, Option}
 use Rattle.octets.specs.Octets.{Bytes, Slice}
 use Rattle.node.specs.declared.Node.{Node}
 use Rattle.node.specs.Nodes.{address_of}
-use Rattle.packet_model.specs.declared.EnrSeq.{EnrSeq}
 use Rattle.packet_model.specs.From as sender
 use Rattle.packet_fields.specs.Spans.{padded}
 use Rattle.packet.specs.Accepted.{SeqFits, Fields}
@@ -32,12 +31,12 @@ pad_node n =
     }
 
 -- the fields of what each writer takes; a Ping is of version 4, and an empty `from` is unknown
-abbrev pub ping_written : Bytes → ℕ → ℕ → Bytes → ℕ → ℕ → EnrSeq → Fields
+abbrev pub ping_written : Bytes → ℕ → ℕ → Bytes → ℕ → ℕ → Option ℕ → Fields
 ping_written from from_udp_port from_tcp_port to to_udp_port x e =
     fields.ping
     (record { version = 4; from_address = sender.from_said from; from_udp = from_udp_port; from_tcp = from_tcp_port; to_address = to; to_udp = to_udp_port; expiration = x; enr-seq = e })
 
-abbrev pub pong_written : Bytes → ℕ → Bytes → ℕ → EnrSeq → Fields
+abbrev pub pong_written : Bytes → ℕ → Bytes → ℕ → Option ℕ → Fields
 pong_written to to_udp_port hash x e = fields.pong (record { to_address = to; to_udp = to_udp_port; ping-hash = hash; expiration = x; enr-seq = e })
 
 abbrev pub find_node_written : Bytes → ℕ → Fields
@@ -54,10 +53,10 @@ enr_response_written hash r = fields.enr_response (record { request-hash = hash;
 
 -- a body that a writer writes, and its fields
 pub data WrittenBody : Bytes → Fields → Type 0 where
-  ping : (from : Bytes) (from_udp_port from_tcp_port : ℕ) (to : Bytes) (to_udp_port x : ℕ) (e : EnrSeq)
+  ping : (from : Bytes) (from_udp_port from_tcp_port : ℕ) (to : Bytes) (to_udp_port x : ℕ) (e : Option ℕ)
       → can_ping from to ≡ true → from_udp_port < 2 ^ 16 → from_tcp_port < 2 ^ 16 → to_udp_port < 2 ^ 16 → x < 2 ^ 64 → SeqFits e
       → WrittenBody (ping_body from from_udp_port from_tcp_port to to_udp_port x e) (ping_written from from_udp_port from_tcp_port to to_udp_port x e)
-  pong : (to : Bytes) (to_udp_port : ℕ) (hash : Bytes) (x : ℕ) (e : EnrSeq)
+  pong : (to : Bytes) (to_udp_port : ℕ) (hash : Bytes) (x : ℕ) (e : Option ℕ)
       → can_pong to hash ≡ true → to_udp_port < 2 ^ 16 → x < 2 ^ 64 → SeqFits e → WrittenBody (pong_body to to_udp_port hash x e) (pong_written to to_udp_port hash x e)
   find_node : (target : Bytes) (x : ℕ) → can_find_node target ≡ true → x < 2 ^ 64 → WrittenBody (find_node_body target x) (find_node_written target x)
   neighbors : (nodes : NodeList) (x : ℕ) → writable_nodes nodes ≡ true → NodesFit (nodes_in nodes) → x < 2 ^ 64

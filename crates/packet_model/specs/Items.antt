@@ -1,13 +1,11 @@
 -- The six packets of the discv4 wire protocol as RLP items: what the data of a packet with given fields is. `more` are the items
 -- that may follow the fields: Ping's and Pong's optional enr-seq, and those that a reader ignores (EIP-8).
-use Rattle.std.specs.Prelude.{ℕ, List, [], ◌∷◌, map}
+use Rattle.std.specs.Prelude.{ℕ, List, [], ◌∷◌, map, Option, Some, None}
 use Rattle.octets.specs.Octets.{Bytes}
 use Rattle.rlp.specs.Numbers.{uint_bytes}
 use Rattle.rlp.specs.Encoding.{Item, string, list, encode, encodes}
 use Rattle.node.specs.declared.Node.{Node}
 use Rattle.node.specs.Nodes.{address_of}
-use Rattle.packet_model.specs.declared.EnrSeq.{EnrSeq}
-use Rattle.packet_model.specs.declared.EnrSeq.TheVariants.{Absent, Present}
 
 -- packet data: one list of items
 abbrev pub data_of : List Item → Bytes
@@ -30,9 +28,9 @@ abbrev pub node_item : Node → Item
 node_item n = node (address_of n.endpoint) n.endpoint.udp n.endpoint.tcp n.key
 
 -- the optional enr-seq of Ping and Pong
-abbrev pub enr_seq_items : EnrSeq → List Item
-enr_seq_items Absent = []
-enr_seq_items (Present n) = uint n ∷ []
+abbrev pub enr_seq_items : Option ℕ → List Item
+enr_seq_items None = []
+enr_seq_items (Some n) = uint n ∷ []
 
 -- 1 Ping: version, from, to, expiration
 abbrev pub ping_items : ℕ → Item → Item → ℕ → List Item → List Item

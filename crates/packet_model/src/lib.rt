@@ -4,19 +4,9 @@
 ghost use Rattle.std.specs.Prelude.{◌≡◌};
 ghost use Rattle.packet_model.specs.From.{is_sender_size};
 
-// Ping's and Pong's optional sequence number of the sender's node record.
-#[derive(Clone, Copy)]
-pub enum EnrSeq {
-    Absent,
-    Present(u64),
-}
-
 // The address in a Ping's `from` has 4 or 16 bytes, or none where it is unknown.
 pub fn is_sender_size(n: usize) -> bool
     ensures { result ≡ is_sender_size n }
 {
-    if n == 0 {
-        return true;
-    }
-    node::is_address_size(n)
+    n == 0 || node::is_address_size(n)
 }

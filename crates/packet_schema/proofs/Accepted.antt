@@ -1,5 +1,6 @@
 -- Data is accepted exactly if it begins with the encoding of items that encode values of the schema's kinds.
 use Prim.Native.Nat.{ℕ, ◌+◌, ◌<◌, ◌^◌}
+use Rattle.std.specs.Prelude.{Option, Some, None}
 use mathlib.Core.Path.{◌≡◌, refl, sym, ap, ◌∙◌}
 use mathlib.Core.Bool.{Bool, true, false}
 use mathlib.Core.List.{List, ◌++◌}
@@ -10,8 +11,7 @@ use Rattle.octets.proofs.Laws.{slice_part}
 use Rattle.rlp.specs.Encoding.{Item, list, encode, encodes, Small}
 use Rattle.rlp.specs.Reading.{head, whole}
 use Rattle.rlp.proofs.Encoding.{read_item, read_payload, read_sound, whole-encodes, encode-length}
-use Rattle.rlp.specs.declared.Header.{Header}
-use Rattle.rlp.specs.declared.Header.TheVariants as read
+use Rattle.rlp.specs.declared.Item as read
 use Rattle.packet_model.specs.Items.{data_of}
 use Rattle.packet_kinds.specs.Payload.{items_of}
 use Rattle.packet_schema.specs.Schema.{fields, verdict}
@@ -39,23 +39,27 @@ never p q = let z : ◌≡◌ {A = ℕ} 0 1 = cc in omega arith
 pub good_accepted : (required : ℕ) (kinds : List Kind) (d : Bytes) → Slice d → verdict required kinds d ≡ Good → Accepted required kinds d
 good_accepted required kinds d sl good = go (head d) refl
   where
-    listed : (skip size : ℕ) → head d ≡ read.Item true skip size → (w : Bool) → whole (part d skip size) ≡ w → Accepted required kinds d
-    listed skip size e true w =
-        let p : Bytes = part d skip size in
-        let sp : Slice p = slice_part d skip size sl in
+    listed : (i : read.Item) → head d ≡ Some i → i.list ≡ true → (w : Bool) → whole (part d i.skip i.size) ≡ w → Accepted required kinds d
+    listed i e l true w =
+        let p : Bytes = part d i.skip i.size in
+        let sp : Slice p = slice_part d i.skip i.size sl in
         let q : encodes (items_of p) ≡ p = encodes_items p sp w in
-        let v : verdict required kinds d ≡ fields required kinds (items_of p) = rw (e, w) in
+        let v : verdict required kinds d ≡ fields required kinds (items_of p) = rw (e, l, w) in
+        let r : encode (list p) ++ drop (i.skip + i.size) d ≡ d = rw l at (read_sound d sl e) in
         record {
           items = items_of p;
-          begins = record { rest = drop (skip + size) d; begins = sym (ap (λ (x : Bytes). encode (list x) ++ drop (skip + size) d) q ∙ read_sound d sl e) };
+          begins = record { rest = drop (i.skip + i.size) d; begins = sym (ap (λ (x : Bytes). encode (list x) ++ drop (i.skip + i.size) d) q ∙ r) };
           shapes = fields_shapes required kinds (items_of p) (slices_items p sp) (sym v ∙ good);
         }
-    listed skip size e false w = absurd (never (rw (e, w)) good)
+    listed i e l false w = absurd (never (rw (e, l, w)) good)
 
-    go : (h : Header) → head d ≡ h → Accepted required kinds d
-    go (read.Item true skip size) e = listed skip size e (whole (part d skip size)) refl
-    go (read.Item false skip size) e = absurd (never (rw e) good)
-    go read.Broken e = absurd (never (rw e) good)
+    either : (i : read.Item) → head d ≡ Some i → (l : Bool) → i.list ≡ l → Accepted required kinds d
+    either i e true l = listed i e l (whole (part d i.skip i.size)) refl
+    either i e false l = absurd (never (rw (e, l)) good)
+
+    go : (h : Option read.Item) → head d ≡ h → Accepted required kinds d
+    go (Some i) e = either i e i.list refl
+    go None e = absurd (never (rw e) good)
 
 pub accepted_good : (required : ℕ) (kinds : List Kind) (d : Bytes) → Slice d → AllLimited kinds → Accepted required kinds d → verdict required kinds d ≡ Good
 accepted_good required kinds d sl limits a =

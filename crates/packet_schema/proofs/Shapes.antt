@@ -1,5 +1,6 @@
 -- An item is what a kind asks exactly if it encodes a value of the kind.
 use Prim.Native.Nat.{ℕ, ◌-◌, ◌≤◌, ◌<◌, ◌^◌}
+use Rattle.std.specs.Prelude.{Option, Some, None}
 use mathlib.Core.Path.{◌≡◌, refl, sym, ap, subst, ◌∙◌}
 use mathlib.Core.Bool.{Bool, true, false, cond, ◌&&◌, false≢true}
 use mathlib.Core.List.{List, [], ◌∷◌}
@@ -11,10 +12,8 @@ use Rattle.octets.specs.Octets as octets
 use Rattle.rlp.specs.Encoding.{Item, string, list, encode, encodes, payload_of, Small}
 use Rattle.rlp.specs.Reading.{whole, uint_of}
 use Rattle.rlp.proofs.Encoding.{uint_read, uint-sound, whole-encodes, small-first, small-rest}
-use Rattle.rlp.specs.declared.Uint as rlp-uint
-use Rattle.rlp.specs.declared.Uint.TheVariants as value
-use Rattle.packet_model.specs.Items.{uint, endpoint, node}
-use Rattle.packet_model.specs.From.{From, from_said, from_bytes, is_from}
+use Rattle.packet_model.specs.Items.{uint}
+use Rattle.packet_model.specs.From.{From, from_said, from_bytes}
 use Rattle.packet_model.proofs.From.{said_bytes, said_good, from_sender}
 use Rattle.packet_kinds.specs.Payload.{items_of}
 use Rattle.packet_kinds.specs.Kinds.{worst, good_if, at_most, is_leaf, leaves, tuple, is_record_item}
@@ -24,7 +23,7 @@ use Rattle.packet_schema.specs.Shapes.{IsEndpoint, IsSender, IsUint, IsString, I
 use Rattle.packet_kinds.specs.declared.Kind.{Kind}
 use Rattle.packet_kinds.specs.declared.Kind.TheVariants.{Uint, Bytes, Address, SenderAddress, Endpoint, Sender, Nodes, Record}
 use Rattle.packet_kinds.specs.declared.Verdict.{Verdict}
-use Rattle.packet_kinds.specs.declared.Verdict.TheVariants.{Good, Broken, Wrong}
+use Rattle.packet_kinds.specs.declared.Verdict.TheVariants.{Good, Wrong, Broken}
 use Rattle.packet_kinds.proofs.Payload.{items_encodes, encodes_items, Slices, slices_items}
 
 -- ---- verdicts and tests
@@ -56,9 +55,9 @@ whole_good false v e = absurd (let z : ◌≡◌ {A = ℕ} 0 1 = cc in omega ari
 
 -- ---- strings
 
-at-most : (u : rlp-uint.Uint) (max : ℕ) → at_most u max ≡ true → (v : ℕ) × (u ≡ value.Value v) × (v ≤ max)
-at-most (value.Value v) max e = (v, refl, leb-true v max e)
-at-most value.NotAnInteger max e = absurd (false≢true e)
+at-most : (u : Option ℕ) (max : ℕ) → at_most u max ≡ true → (v : ℕ) × (u ≡ Some v) × (v ≤ max)
+at-most (Some v) max e = (v, refl, leb-true v max e)
+at-most None max e = absurd (false≢true e)
 
 pub uint_shape : (max : ℕ) (i : Item) → Slice (payload_of i) → is_leaf (Uint max) i ≡ true → IsUint max i
 uint_shape max (string s) sl e =

@@ -1,5 +1,6 @@
 -- Data is broken exactly if it is torn: if it, or a list in it that is read, is not the encoding of whole items.
 use Prim.Native.Nat.{ℕ, ◌-◌}
+use Rattle.std.specs.Prelude.{Option, Some, None}
 use mathlib.Core.Path.{◌≡◌, refl, sym, ap, subst, ◌∙◌}
 use mathlib.Core.Bool.{Bool, true, false, cond, false≢true}
 use mathlib.Core.List.{List, [], ◌∷◌}
@@ -13,8 +14,7 @@ use Rattle.octets.proofs.Laws.{slice_part}
 use Rattle.rlp.specs.Encoding.{Item, string, list, encodes, payload_of, prefix, Small}
 use Rattle.rlp.specs.Reading.{head, whole}
 use Rattle.rlp.proofs.Encoding.{read_payload, whole-encodes, whole_is_encodes, small_items}
-use Rattle.rlp.specs.declared.Header.{Header}
-use Rattle.rlp.specs.declared.Header.TheVariants as read
+use Rattle.rlp.specs.declared.Item as read
 use Rattle.packet_kinds.specs.Payload.{items_of}
 use Rattle.packet_kinds.specs.Kinds.{worst, good_if, is_leaf, leaves, tuple, is_record_item}
 use Rattle.packet_kinds.specs.Kinds as schema
@@ -24,7 +24,7 @@ use Rattle.packet_schema.specs.Torn.{IsItems, TornList, AnyTorn, TornNodes, Torn
 use Rattle.packet_kinds.specs.declared.Kind.{Kind}
 use Rattle.packet_kinds.specs.declared.Kind.TheVariants.{Uint, Bytes, Address, SenderAddress, Endpoint, Sender, Nodes, Record}
 use Rattle.packet_kinds.specs.declared.Verdict.{Verdict}
-use Rattle.packet_kinds.specs.declared.Verdict.TheVariants.{Good, Broken, Wrong}
+use Rattle.packet_kinds.specs.declared.Verdict.TheVariants.{Good, Wrong, Broken}
 use Rattle.packet_kinds.proofs.Payload.{items_encodes, encodes_items, Slices, slices_items}
 use Rattle.packet_schema.proofs.Accepted.{small_data, verdict_data, good_accepted}
 
@@ -156,11 +156,16 @@ list_first : (w : Bool) → (cond w Good Broken ≡ Good) ⊎ ((v : Verdict) →
 list_first true = inl refl
 list_first false = inr (λ v. refl)
 
-begun_by : (h : Header) (d : octets.Bytes) → (verdict_of 0 [] h d ≡ Good) ⊎ ((required : ℕ) (kinds : List Kind) → verdict_of required kinds h d ≡ Broken)
-begun_by (read.Item true skip size) d =
-    ⊎_elim (λ e. inl e) (λ e. inr (λ required kinds. e (fields required kinds (items_of (part d skip size))))) (list_first (whole (part d skip size)))
-begun_by (read.Item false skip size) d = inr (λ required kinds. refl)
-begun_by read.Broken d = inr (λ required kinds. refl)
+begun_by : (h : Option read.Item) (d : octets.Bytes) → (verdict_of 0 [] h d ≡ Good) ⊎ ((required : ℕ) (kinds : List Kind) → verdict_of required kinds h d ≡ Broken)
+begun_by (Some i) d = go i.list
+  where
+    p : octets.Bytes
+    p = part d i.skip i.size
+
+    go : (l : Bool) → (cond l (cond (whole p) Good Broken) Broken ≡ Good) ⊎ ((required : ℕ) (kinds : List Kind) → cond l (cond (whole p) (fields required kinds (items_of p)) Broken) Broken ≡ Broken)
+    go true = ⊎_elim (λ e. inl e) (λ e. inr (λ required kinds. e (fields required kinds (items_of p)))) (list_first (whole p))
+    go false = inr (λ required kinds. refl)
+begun_by None d = inr (λ required kinds. refl)
 
 module _ (d : octets.Bytes) (sl : Slice d) where
   pub small-begun : (is : List Item) → Begins d is → Small is

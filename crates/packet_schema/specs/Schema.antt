@@ -1,17 +1,16 @@
 -- What a schema, a list of kinds, asks of the items of a packet's data.
-use Rattle.std.specs.Prelude.{ℕ, ◌-◌, true, false, cond, List, [], ◌∷◌, eqb}
+use Rattle.std.specs.Prelude.{ℕ, ◌-◌, cond, List, [], ◌∷◌, Option, Some, None, eqb}
 use Rattle.octets.specs.Octets.{part}
 use Rattle.octets.specs.Octets as octets
 use Rattle.rlp.specs.Encoding.{Item, string, list}
 use Rattle.rlp.specs.Reading.{head, whole}
-use Rattle.rlp.specs.declared.Header.{Header}
-use Rattle.rlp.specs.declared.Header.TheVariants as read
+use Rattle.rlp.specs.declared.Item as read
 use Rattle.packet_kinds.specs.Payload.{items_of}
 use Rattle.packet_kinds.specs.Kinds.{worst, good_if, is_leaf, tuple, endpoint, sender, node, is_record_item}
 use Rattle.packet_kinds.specs.declared.Kind.{Kind}
 use Rattle.packet_kinds.specs.declared.Kind.TheVariants.{Uint, Bytes, Address, SenderAddress, Endpoint, Sender, Nodes, Record}
 use Rattle.packet_kinds.specs.declared.Verdict.{Verdict}
-use Rattle.packet_kinds.specs.declared.Verdict.TheVariants.{Good, Broken, Wrong}
+use Rattle.packet_kinds.specs.declared.Verdict.TheVariants.{Good, Wrong, Broken}
 
 abbrev pub each_node : List Item → Verdict
 each_node [] = Good
@@ -39,11 +38,10 @@ fields required [] is = Good
 fields required (kind ∷ kinds) [] = good_if (eqb required 0)
 fields required (kind ∷ kinds) (i ∷ is) = worst (field kind i) (fields (required - 1) kinds is)
 
-abbrev pub verdict_of : ℕ → List Kind → Header → octets.Bytes → Verdict
-verdict_of required kinds (read.Item true skip size) d =
-    cond (whole (part d skip size)) (fields required kinds (items_of (part d skip size))) Broken
-verdict_of required kinds (read.Item false skip size) d = Broken
-verdict_of required kinds read.Broken d = Broken
+abbrev pub verdict_of : ℕ → List Kind → Option read.Item → octets.Bytes → Verdict
+verdict_of required kinds (Some i) d =
+    cond i.list (cond (whole (part d i.skip i.size)) (fields required kinds (items_of (part d i.skip i.size))) Broken) Broken
+verdict_of required kinds None d = Broken
 
 -- packet data: a list of whole items that are what kinds ask, and anything after it
 abbrev pub verdict : ℕ → List Kind → octets.Bytes → Verdict

@@ -6,26 +6,21 @@ ghost use Rattle.packet_span.specs.Parts.{bytes_of};
 ghost use Rattle.packet_span.specs.Parts as spec;
 
 // `len` bytes from `start` on.
-#[derive(Clone, Copy)]
+#[derive(Clone, Copy, Debug, PartialEq, Eq)]
 pub struct Span {
     pub start: usize,
     pub len: usize,
 }
 
 // The bytes of a span; none where it does not lie inside the datagram.
+#[tactic(auto, using(crate::proofs::Parts::bytes_part))]
 pub fn bytes_of(datagram: &[u8], span: Span) -> &[u8]
     ensures { result.now ≡ bytes_of datagram.now span }
 {
-    let start = span.start;
-    let len = span.len;
-    if datagram.len() < start {
-        return &datagram[0..0];
+    if datagram.len() < span.start || datagram.len() - span.start < span.len {
+        return &[];
     }
-    if datagram.len() - start < len {
-        return &datagram[0..0];
-    }
-    let end = start + len;
-    &datagram[start..end]
+    &datagram[span.start..span.start + span.len]
 }
 
 // A span, `by` bytes further on.

@@ -6,19 +6,18 @@ ghost use Rattle.packet_bodies.specs.Writers.{is_record, enr_request_body, can_e
 ghost use Rattle.written.specs.Written.{written, written_in};
 
 use packet_bodies::{body_size, put_start};
-use rlp::Header;
-use written::Written;
+use written::WriteError;
 
 // Whether a record is one whole list of at most 300 bytes with its header, and nothing else.
 fn is_record(record: &[u8]) -> bool
     ensures { result ≡ is_record «record».now }
 {
     if record.len() <= 300 {
-        let Header::Item { list, skip, size } = rlp::read_header(record) else {
+        let Some(item) = rlp::read_header(record) else {
             return false;
         };
-        if list {
-            skip + size == record.len()
+        if item.list {
+            item.skip + item.size == record.len()
         } else {
             false
         }
@@ -30,40 +29,40 @@ fn is_record(record: &[u8]) -> bool
 fn can_enr_response(request_hash: &[u8], record: &[u8]) -> bool
     ensures { result ≡ can_enr_response request_hash.now «record».now }
 {
-    if request_hash.len() == 32 {
-        is_record(record)
-    } else {
-        false
-    }
+    request_hash.len() == 32 && is_record(record)
 }
 
 // Writes the body of an ENRRequest.
-pub fn write_enr_request(buf: &mut [u8], expiration: u64) -> Written
+pub fn write_enr_request(buf: &mut [u8], expiration: u64) -> Result<usize, WriteError>
     ensures answer { result ≡ written true (enr_request_body expiration) buf.old }
     ensures bytes { buf.new ≡ written_in true (enr_request_body expiration) buf.old }
 {
     let size = rlp_write::uint_size(expiration);
-    if body_size(size) <= buf.len() {
-        let at = put_start(buf, 5, size);
-        return Written::Done(rlp_write::write_uint(buf, at, expiration));
+    if buf.len() < body_size(size) {
+        return Err(WriteError::Short);
     }
-    Written::Short
+    let at = put_start(buf, 5, size);
+    Ok(rlp_write::write_uint(buf, at, expiration))
 }
 
 // Writes the body of an ENRResponse.
-pub fn write_enr_response(buf: &mut [u8], request_hash: &[u8], record: &[u8]) -> Written
+pub fn write_enr_response(
+    buf: &mut [u8],
+    request_hash: &[u8],
+    record: &[u8],
+) -> Result<usize, WriteError>
     ensures answer { result ≡ written (can_enr_response request_hash.now «record».now) (enr_response_body request_hash.now «record».now) buf.old }
     ensures bytes { buf.new ≡ written_in (can_enr_response request_hash.now «record».now) (enr_response_body request_hash.now «record».now) buf.old }
 {
-    if can_enr_response(request_hash, record) {
-        let size = 33 + record.len();
-        if body_size(size) <= buf.len() {
-            let at = put_start(buf, 6, size);
-            let at = rlp_write::write_string(buf, at, request_hash);
-            octets::put_bytes(buf, at, record);
-            return Written::Done(at + record.len());
-        }
-        return Written::Short;
+    if !can_enr_response(request_hash, record) {
+        return Err(WriteError::Unwritable);
     }
-    Written::Unwritable
+    let size = 33 + record.len();
+    if buf.len() < body_size(size) {
+        return Err(WriteError::Short);
+    }
+    let at = put_start(buf, 6, size);
+    let at = rlp_write::write_string(buf, at, request_hash);
+    octets::put_bytes(buf, at, record);
+    Ok(at + record.len())
 }

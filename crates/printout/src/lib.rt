@@ -24,7 +24,7 @@ pub fn room_for(buckets: usize) -> usize
 }
 
 // How many entries and how many replacements a table holds.
-#[derive(Clone, Copy)]
+#[derive(Clone, Copy, Debug, PartialEq, Eq)]
 pub struct Totals {
     pub entries: usize,
     pub replacements: usize,
@@ -35,14 +35,12 @@ pub fn held_in(table: &[u8]) -> Totals
     ensures { result ≡ record { entries = entry_total (buckets_of table.now); replacements = replacement_total (buckets_of table.now) } }
 {
     let count = table::bucket_count(table);
-    let mut entries: usize = 0;
-    let mut replacements: usize = 0;
-    let mut slot = 0;
-    while slot < count {
+    let mut entries = 0;
+    let mut replacements = 0;
+    for slot in 0..count {
         let start = table::HEADER_SIZE + slot * Bucket::SIZE;
         entries += table[start] as usize;
         replacements += table[start + 1] as usize;
-        slot += 1;
     }
     Totals {
         entries,
@@ -84,11 +82,9 @@ fn put_entries(
     ensures bytes { out.new ≡ store out.old at (entry_rows word.now distance 1 (entries_at table.now from n)) }
 {
     let mut next = at;
-    let mut i = 0;
-    while i < n {
+    for i in 0..n {
         let e = entry::load_entry(table, from + i * Entry::SIZE);
         next = put_entry(out, next, word, distance, i + 1, e);
-        i += 1;
     }
     next
 }
@@ -123,10 +119,8 @@ fn put_buckets(out: &mut [u8], at: usize, table: &[u8]) -> usize
     let count = table::bucket_count(table);
     let first = 257 - count;
     let mut next = at;
-    let mut slot = 0;
-    while slot < count {
+    for slot in 0..count {
         next = put_bucket(out, next, first + slot, table, slot);
-        slot += 1;
     }
     next
 }

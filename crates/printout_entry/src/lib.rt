@@ -30,9 +30,7 @@ fn put_endpoint(out: &mut [u8], at: usize, endpoint: Endpoint) -> usize
     ensures next { result ≡ at + length (endpoint_text endpoint) }
     ensures bytes { out.new ≡ store out.old at (endpoint_text endpoint) }
 {
-    let address = endpoint.address;
-    let len = endpoint.len as usize;
-    let next = hex_field(out, at, &address[..len]);
+    let next = hex_field(out, at, &endpoint.address[..endpoint.len as usize]);
     let next = decimal_field(out, next, endpoint.udp as u64);
     decimal_field(out, next, endpoint.tcp as u64)
 }
@@ -79,13 +77,8 @@ pub fn put_entry(
     ensures next { result ≡ at + length (entry_row word.now distance place e) }
     ensures bytes { out.new ≡ store out.old at (entry_row word.now distance place e) }
 {
-    let key = e.key;
-    let endpoint = e.endpoint;
-    let seen = e.seen;
-    let proof = e.proof;
-    let ping = e.ping;
     let next = put_place(out, at, word, distance, place);
-    let next = key_field(out, next, key);
-    let next = put_endpoint(out, next, endpoint);
-    put_times(out, next, seen, proof, ping)
+    let next = key_field(out, next, e.key);
+    let next = put_endpoint(out, next, e.endpoint);
+    put_times(out, next, e.seen, e.proof, e.ping)
 }

@@ -1,28 +1,27 @@
 -- Laws of the strict reader: bounds of an item, the items of a payload one after the other, integers. Assumes nothing.
 use Prim.Native.Nat.{ℕ, zero, suc, pred, ◌+◌, ◌-◌, ◌≤◌, ◌<◌}
+use Rattle.std.specs.Prelude.{Option, Some, None}
 use mathlib.Core.Path.{◌≡◌, refl, sym, ap, subst, ◌∙◌}
 use mathlib.Core.Logic.{◌≢◌}
 use mathlib.Core.Bool.{Bool, true, false, cond, ◌&&◌}
 use mathlib.Core.List.{[], ◌∷◌}
 use native.Mathlib.Nat.{add_assoc, zero-add, not-suc-le-zero, le_of_suc-le-suc}
 use native.Mathlib.Omega.{arith}
-use borrow.Author.Tests.{le-leb, eq-eqb, ne_eqb, lt-ltb, le-ltb}
+use borrow.Author.Tests.{ne_eqb, le-ltb}
 use lib.ListN.{length, get_or, take, drop, length-drop, drop_of_length-le}
 use lib.Seq.{drop-drop}
 use Rattle.octets.specs.Octets.{Bytes, part, number}
 use Rattle.octets.proofs.Laws.{part_rest}
-use Rattle.rlp.specs.Reading.{within, long, sized, strict, is_one, head, extent, is_whole, whole_after, whole, count_after, count, offset, leading_zero, uint_of}
-use Rattle.rlp.specs.declared.Header.{Header}
-use Rattle.rlp.specs.declared.Header.TheVariants.{Item, Broken}
-use Rattle.rlp.specs.declared.Uint.TheVariants.{Value, NotAnInteger}
+use Rattle.rlp.specs.Reading.{item, within, long, sized, strict, is_one, head, extent, is_whole, whole_after, whole, count_after, count, offset, leading_zero, uint_of}
+use Rattle.rlp.specs.declared.Item.{Item}
 use Rattle.rlp.proofs.Cases.{by_cases, by_leb, by_ltb, by_eqb}
 
 -- ---- bounds
 
 -- an item that is read has at least a byte, and lies within s
-abbrev pub InBounds : Bytes → Header → Type 0
-InBounds s (Item list skip size) = (0 < skip + size) × (skip + size ≤ length s)
-InBounds s Broken = Unit {0}
+abbrev pub InBounds : Bytes → Option Item → Type 0
+InBounds s (Some i) = (0 < i.skip + i.size) × (i.skip + i.size ≤ length s)
+InBounds s None = Unit {0}
 
 module _ (s : Bytes) where
   within-bounds : (list : Bool) (skip size : ℕ) → 0 < skip → skip ≤ length s → InBounds s (within s list skip size)
@@ -41,7 +40,7 @@ module _ (s : Bytes) where
   sized-bounds list tag h =
       by_ltb (InBounds s) tag 56 (λ _. within-bounds list 1 tag (omega arith) h) (λ _. long-bounds list (tag - 55) h)
 
-  strict-bounds : (h : Header) → InBounds s h → InBounds s (strict s h)
+  strict-bounds : (h : Option Item) → InBounds s h → InBounds s (strict s h)
   unfolding strict
   strict-bounds h b = by_cases (InBounds s) (is_one h) (λ _. by_ltb (InBounds s) (get_or s 1 0) 0x80 (λ _. tt) (λ _. b)) (λ _. b)
 
@@ -54,15 +53,15 @@ module _ (s : Bytes) where
       by_ltb (InBounds s) (get_or s 0 0) 0x80 (λ _. (omega arith, omega arith))
       (λ _. by_ltb (InBounds s) (get_or s 0 0) 0xc0 (λ _. strict-bounds _ (sized-bounds false _ p)) (λ _. sized-bounds true _ p)))
 
-  pub item-bounds : {list : Bool} {skip size : ℕ} → head s ≡ Item list skip size → (0 < skip + size) × (skip + size ≤ length s)
+  pub item-bounds : {list : Bool} {skip size : ℕ} → head s ≡ item list skip size → (0 < skip + size) × (skip + size ≤ length s)
   item-bounds e = subst (InBounds s) e head-bounds
 
   pub extent-bound : extent (head s) ≤ length s
   extent-bound = go (head s) head-bounds
     where
-      go : (h : Header) → InBounds s h → extent h ≤ length s
-      go (Item list skip size) b = b.1
-      go Broken b = omega arith
+      go : (h : Option Item) → InBounds s h → extent h ≤ length s
+      go (Some i) b = b.1
+      go None b = omega arith
 
 -- an offset lies within s, or at its end
 pub offset_bound : (n : ℕ) (s : Bytes) → offset n s ≤ length s
@@ -73,14 +72,18 @@ offset_bound (suc n) s =
 -- ---- the item at `at`
 
 -- what `read_header(&s[at..])` gave is what stands at `at`
-pub head_at : (s : Bytes) (at : ℕ) {h h' : Header} → h ≡ head (take (length s - at) (drop at s)) → h ≡ h' → head (drop at s) ≡ h'
+pub head_at : (s : Bytes) (at : ℕ) {h h' : Option Item} → h ≡ head (take (length s - at) (drop at s)) → h ≡ h' → head (drop at s) ≡ h'
 unfolding part
 head_at s at e f = ap head (sym (part_rest s at)) ∙ sym e ∙ f
 
 -- an item that was read at `at` has a byte, and ends within s
-pub item_at : (s : Bytes) (at : ℕ) {list : Bool} {skip size : ℕ} → at ≤ length s → head (drop at s) ≡ Item list skip size
+pub item_at : (s : Bytes) (at : ℕ) {list : Bool} {skip size : ℕ} → at ≤ length s → head (drop at s) ≡ item list skip size
     → (0 < skip + size) × (at + skip + size ≤ length s)
 item_at s at l e = let b = item-bounds (drop at s) e in (b.0, omega (arith, b.1, length-drop at s))
+
+-- the item that `read_header(&s[at..])` gave ends within s
+pub item_ends : (s : Bytes) (at : ℕ) {i : Item} → at ≤ length s → head (take (length s - at) (drop at s)) ≡ Some i → at + i.skip + i.size ≤ length s
+item_ends s at l e = (item_at s at l (head_at s at refl e)).1
 
 -- what is left after an item that was read at `at`
 pub drop_item : (s : Bytes) (at skip size : ℕ) → drop (skip + size) (drop at s) ≡ drop (at + skip + size) s
@@ -106,38 +109,38 @@ unfolding whole
 whole_next [] p = absurd (omega (arith, extent-bound []))
 whole_next (b ∷ s) p = go (head (b ∷ s)) p ∙ next whole_after (λ n b s. refl) (extent (head (b ∷ s))) b s p (extent-bound (b ∷ s))
   where
-    go : (h : Header) → 0 < extent h → (is_whole h && whole_after (pred (extent h)) s) ≡ whole_after (pred (extent h)) s
-    go (Item list skip size) p = refl
-    go Broken p = absurd (omega arith)
+    go : (h : Option Item) → 0 < extent h → (is_whole h && whole_after (pred (extent h)) s) ≡ whole_after (pred (extent h)) s
+    go (Some i) p = refl
+    go None p = absurd (omega arith)
 
 pub count_next : (s : Bytes) → 0 < extent (head s) → count s ≡ suc (count (drop (extent (head s)) s))
 unfolding count
 count_next [] p = absurd (omega (arith, extent-bound []))
 count_next (b ∷ s) p = go (head (b ∷ s)) p ∙ ap suc (next count_after (λ n b s. refl) (extent (head (b ∷ s))) b s p (extent-bound (b ∷ s)))
   where
-    go : (h : Header) → 0 < extent h → cond (is_whole h) (suc (count_after (pred (extent h)) s)) 0 ≡ suc (count_after (pred (extent h)) s)
-    go (Item list skip size) p = refl
-    go Broken p = absurd (omega arith)
+    go : (h : Option Item) → 0 < extent h → cond (is_whole h) (suc (count_after (pred (extent h)) s)) 0 ≡ suc (count_after (pred (extent h)) s)
+    go (Some i) p = refl
+    go None p = absurd (omega arith)
 
 -- a header without extent is broken
-stuck : (s : Bytes) → extent (head s) ≡ 0 → head s ≡ Broken
+stuck : (s : Bytes) → extent (head s) ≡ 0 → head s ≡ None
 stuck s = go (head s) (head-bounds s)
   where
-    go : (h : Header) → InBounds s h → extent h ≡ 0 → h ≡ Broken
-    go (Item list skip size) b e = absurd (omega (arith, b.0))
-    go Broken b e = refl
+    go : (h : Option Item) → InBounds s h → extent h ≡ 0 → h ≡ None
+    go (Some i) b e = absurd (omega (arith, b.0))
+    go None b e = refl
 
-pub whole_broken : (s : Bytes) → 0 < length s → head s ≡ Broken → whole s ≡ false
+pub whole_broken : (s : Bytes) → 0 < length s → head s ≡ None → whole s ≡ false
 unfolding whole
 whole_broken [] h e = absurd (not-suc-le-zero h)
-whole_broken (b ∷ s) h e = ap (λ (h : Header). is_whole h && whole_after (pred (extent h)) s) e
+whole_broken (b ∷ s) h e = ap (λ (h : Option Item). is_whole h && whole_after (pred (extent h)) s) e
 
-pub count_broken : (s : Bytes) → head s ≡ Broken → count s ≡ 0
+pub count_broken : (s : Bytes) → head s ≡ None → count s ≡ 0
 unfolding count
 count_broken [] e = refl
-count_broken (b ∷ s) e = ap (λ (h : Header). cond (is_whole h) (suc (count_after (pred (extent h)) s)) 0) e
+count_broken (b ∷ s) e = ap (λ (h : Option Item). cond (is_whole h) (suc (count_after (pred (extent h)) s)) 0) e
 
-pub offset_broken : (s : Bytes) (n : ℕ) → head s ≡ Broken → offset n s ≡ 0
+pub offset_broken : (s : Bytes) (n : ℕ) → head s ≡ None → offset n s ≡ 0
 offset_broken s zero e = refl
 offset_broken s (suc n) e = rw e (zero-add _ ∙ offset_broken s n e)
 
@@ -185,35 +188,11 @@ whole_end s at h = ap whole (drop_of_length-le s h) ∙ whole-nil
 pub count_end : (s : Bytes) (at : ℕ) → length s ≤ at → count (drop at s) ≡ 0
 count_end s at h = ap count (drop_of_length-le s h) ∙ count-nil
 
--- ---- a long header whose bytes are there, by the number v that they spell
+-- ---- an integer's reading
 
-module _ (s : Bytes) (list : Bool) (k v : ℕ) (fits : k ≤ length s - 1) (lead : get_or s 1 0 ≢ 0) (spelt : v ≡ number (part s 1 k)) where
-  pub long-short : v < 56 → Broken ≡ long s list k
-  unfolding long
-  long-short h = simp (le-leb _ _ fits, ne_eqb _ _ lead, ← spelt, lt-ltb _ _ h)
-
-  pub long-within : 56 ≤ v → within s list (1 + k) v ≡ long s list k
-  unfolding long
-  long-within h = simp (le-leb _ _ fits, ne_eqb _ _ lead, ← spelt, le-ltb _ _ h)
-
--- ---- the three answers of an integer's reading
-
-module _ (s : Bytes) where
-  pub uint-long : 8 < length s → NotAnInteger ≡ uint_of s
-  unfolding uint_of
-  uint-long h = simp (lt-ltb _ _ h)
-
-  pub uint-leading : length s ≤ 8 → leading_zero s ≡ true → NotAnInteger ≡ uint_of s
-  unfolding uint_of
-  uint-leading h z = simp (le-ltb _ _ h, z)
-
-  pub uint-value : length s ≤ 8 → leading_zero s ≡ false → Value (number s) ≡ uint_of s
-  unfolding uint_of
-  uint-value h z = simp (le-ltb _ _ h, z)
-
-pub leading-zero : (s : Bytes) → 0 < length s → get_or s 0 0 ≡ 0 → leading_zero s ≡ true
-leading-zero [] p e = absurd (not-suc-le-zero p)
-leading-zero (b ∷ s) p e = eq-eqb b 0 e
+pub uint-value : (s : Bytes) → length s ≤ 8 → leading_zero s ≡ false → Some (number s) ≡ uint_of s
+unfolding uint_of
+uint-value s h z = simp (le-ltb _ _ h, z)
 
 pub no_leading_zero : (s : Bytes) → (0 < length s → get_or s 0 0 ≢ 0) → leading_zero s ≡ false
 no_leading_zero [] e = refl

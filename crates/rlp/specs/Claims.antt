@@ -1,12 +1,10 @@
 -- What is claimed of strict RLP: what is written reads back, what is read is the encoding.
-use Rattle.std.specs.Prelude.{ℕ, ◌+◌, ◌^◌, ◌<◌, ◌≡◌, Bool, true, List, ◌++◌, length, drop}
+use Rattle.std.specs.Prelude.{ℕ, ◌+◌, ◌^◌, ◌<◌, ◌≡◌, Bool, true, Some, List, ◌++◌, length, drop}
 use Rattle.octets.specs.Octets.{Bytes, Slice, part}
 use Rattle.rlp.specs.Numbers.{uint_bytes}
 use Rattle.rlp.specs.Encoding.{encode, encodes, item_of, is_list, payload_of, prefix, Small}
 use Rattle.rlp.specs.Encoding as rlp
-use Rattle.rlp.specs.Reading.{head, whole, uint_of}
-use Rattle.rlp.specs.declared.Header.TheVariants.{Item}
-use Rattle.rlp.specs.declared.Uint.TheVariants.{Value}
+use Rattle.rlp.specs.Reading.{item, head, whole, uint_of}
 
 -- ---- an item
 
@@ -14,12 +12,12 @@ use Rattle.rlp.specs.declared.Uint.TheVariants.{Value}
 abbrev pub ReadItem : Type 0
 ReadItem =
     (i : rlp.Item) (rest : Bytes) → length (payload_of i) < 2 ^ 64
-    → head (encode i ++ rest) ≡ Item (is_list i) (length (prefix i)) (length (payload_of i))
+    → head (encode i ++ rest) ≡ item (is_list i) (length (prefix i)) (length (payload_of i))
 
 -- what is read as an item is that item's encoding, and what follows it
 abbrev pub ReadIsEncoding : Type 0
 ReadIsEncoding =
-    (s : Bytes) (l : Bool) (skip size : ℕ) → Slice s → head s ≡ Item l skip size
+    (s : Bytes) (l : Bool) (skip size : ℕ) → Slice s → head s ≡ item l skip size
     → encode (item_of l (part s skip size)) ++ drop (skip + size) s ≡ s
 
 -- ---- the payload of a list
@@ -35,7 +33,7 @@ WholeIsEncodes = (s : Bytes) → Slice s → whole s ≡ true → (is : List rlp
 -- ---- an integer
 
 abbrev pub UintRead : Type 0
-UintRead = (n : ℕ) → n < 2 ^ 64 → uint_of (uint_bytes n) ≡ Value n
+UintRead = (n : ℕ) → n < 2 ^ 64 → uint_of (uint_bytes n) ≡ Some n
 
 abbrev pub UintSound : Type 0
-UintSound = (s : Bytes) (n : ℕ) → Slice s → uint_of s ≡ Value n → s ≡ uint_bytes n
+UintSound = (s : Bytes) (n : ℕ) → Slice s → uint_of s ≡ Some n → s ≡ uint_bytes n

@@ -9,53 +9,45 @@ ghost use Rattle.rlp.specs.Reading as spec;
 
 use octets::number_at;
 
-// The item at the front of a slice.
-#[derive(Clone, Copy)]
-pub enum Header {
-    // Its payload is the `size` bytes after the first `skip`.
-    Item {
-        list: bool,
-        skip: usize,
-        size: usize,
-    },
-    // Not whole, or not shortest-form.
-    Broken,
+// An item at the front of a slice: its payload is the `size` bytes after the first `skip`.
+#[derive(Clone, Copy, Debug, PartialEq, Eq)]
+pub struct Item {
+    pub list: bool,
+    pub skip: usize,
+    pub size: usize,
 }
 
 // An item whose payload is the `size` bytes after the first `skip`, if the slice has them.
-fn within(s: &[u8], list: bool, skip: usize, size: usize) -> Header
+fn within(s: &[u8], list: bool, skip: usize, size: usize) -> Option<Item>
     requires { skip ≤ length s.now }
     ensures { result ≡ spec.within s.now list skip size }
 {
     if size <= s.len() - skip {
-        Header::Item { list, skip, size }
+        Some(Item { list, skip, size })
     } else {
-        Header::Broken
+        None
     }
 }
 
 // A payload of 56 bytes or more, whose size is spelt by the `k` bytes after the first.
-fn long(s: &[u8], list: bool, k: usize) -> Header
+#[tactic(auto, unfolding(crate::specs::Reading::long))]
+fn long(s: &[u8], list: bool, k: usize) -> Option<Item>
     requires { (0 < length s.now) × (0 < k) × (k ≤ 8) }
     ensures { result ≡ spec.long s.now list k }
 {
-    if k <= s.len() - 1 {
-        if s[1] == 0 {
-            return Header::Broken;
-        }
-        let size = number_at(s, 1, k);
-        if size < 56 {
-            Header::Broken
-        } else {
-            within(s, list, 1 + k, size as usize)
-        }
-    } else {
-        Header::Broken
+    if s.len() - 1 < k || s[1] == 0 {
+        return None;
     }
+    let size = number_at(s, 1, k);
+    if size < 56 {
+        return None;
+    }
+    within(s, list, 1 + k, size as usize)
 }
 
 // The item of a header byte that is `tag` more than its kind's base.
-fn sized(s: &[u8], list: bool, tag: usize) -> Header
+#[tactic(auto, unfolding(crate::specs::Reading::sized))]
+fn sized(s: &[u8], list: bool, tag: usize) -> Option<Item>
     requires { (0 < length s.now) × (tag < 64) }
     ensures { result ≡ spec.sized s.now list tag }
 {
@@ -66,65 +58,46 @@ fn sized(s: &[u8], list: bool, tag: usize) -> Header
     }
 }
 
-// The item at the front of a slice.
-pub fn read_header(s: &[u8]) -> Header
+// The item at the front of a slice; none where it is not whole, or not shortest-form.
+#[tactic(auto, unfolding(crate::specs::Reading::head, crate::specs::Reading::strict))]
+pub fn read_header(s: &[u8]) -> Option<Item>
     ensures { result ≡ head s.now }
 {
-    if s.len() == 0 {
-        return Header::Broken;
-    }
-    let b = s[0] as usize;
+    let b = usize::from(*s.first()?);
     if b < 128 {
-        return Header::Item {
+        return Some(Item {
             list: false,
             skip: 0,
             size: 1,
-        };
+        });
     }
     if b < 192 {
-        let h = sized(s, false, b - 128);
-        return strict(s, h);
+        return strict(s, sized(s, false, b - 128)?);
     }
     sized(s, true, b - 192)
 }
 
 // A string of one byte below 0x80 has no header.
-fn strict(s: &[u8], h: Header) -> Header
-    ensures { result ≡ spec.strict s.now h }
+#[tactic(auto, unfolding(crate::specs::Reading::strict))]
+fn strict(s: &[u8], item: Item) -> Option<Item>
+    ensures { result ≡ spec.strict s.now (Some item) }
 {
-    let Header::Item {
-        list: _,
-        skip: _,
-        size,
-    } = h
-    else {
-        return h;
-    };
-    if size == 1 {
-        if s.len() <= 1 {
-            return Header::Broken;
-        }
-        if s[1] < 128 {
-            return Header::Broken;
-        }
+    if item.size == 1 && (s.len() <= 1 || s[1] < 128) {
+        return None;
     }
-    h
+    Some(item)
 }
 
 // Where the item at `at` ends: `at` itself where none stands there.
+#[tactic(auto, using(crate::proofs::Reading::item_ends))]
 fn item_end(s: &[u8], at: usize) -> usize
     requires { at ≤ length s.now }
     ensures { result ≡ at + extent (head (drop at s.now)) }
 {
-    let Header::Item {
-        list: _,
-        skip,
-        size,
-    } = read_header(&s[at..])
-    else {
+    let Some(item) = read_header(&s[at..]) else {
         return at;
     };
-    at + skip + size
+    at + item.skip + item.size
 }
 
 // Whether a payload is whole items and nothing else.
@@ -164,38 +137,25 @@ pub fn item_offset(s: &[u8], n: usize) -> usize
     ensures { result ≡ offset n s.now }
 {
     let mut at = 0;
-    let mut left = n;
-    while 0 < left {
+    for _ in 0..n {
         let end = item_end(s, at);
         if end == at {
             return at;
         }
         at = end;
-        left -= 1;
     }
     at
 }
 
-// The integer that a string's bytes spell.
-#[derive(Clone, Copy)]
-pub enum Uint {
-    Value(u64),
-    // More than eight bytes, or a leading zero.
-    NotAnInteger,
-}
-
-pub fn read_uint(s: &[u8]) -> Uint
+// The integer that a string's bytes spell; none of more than eight bytes, or of a leading zero.
+#[tactic(auto, unfolding(crate::specs::Reading::uint_of))]
+pub fn read_uint(s: &[u8]) -> Option<u64>
     ensures { result ≡ uint_of s.now }
 {
-    if 8 < s.len() {
-        return Uint::NotAnInteger;
+    if 8 < s.len() || matches!(s, [0, ..]) {
+        return None;
     }
-    if 0 < s.len() {
-        if s[0] == 0 {
-            return Uint::NotAnInteger;
-        }
-    }
-    Uint::Value(number_at(s, 0, s.len()))
+    Some(number_at(s, 0, s.len()))
 }
 
 // The number of bytes of an integer.

@@ -8,21 +8,14 @@ ghost use Rattle.rlp.specs.Encoding.{header, encode, string};
 ghost use Rattle.rlp.specs.Reading.{head, whole, count, offset, uint_of};
 ghost use Rattle.rlp_capi.specs.Boundary.{kind_of, skip_of, is_integer, value_of};
 
-use rlp::{Header, Uint};
-
 // What stands at the front of `s`: 0 no item, 1 a string, 2 a list.
 #[unsafe(no_mangle)]
 pub extern "C" fn rlp_kind(s: &[u8]) -> u64
     ensures { result ≡ kind_of (head s.now) }
 {
-    let h = rlp::read_header(s);
-    match h {
-        Header::Item {
-            list,
-            skip: _,
-            size: _,
-        } => if list { 2 } else { 1 },
-        Header::Broken => 0,
+    match rlp::read_header(s) {
+        Some(item) => if item.list { 2 } else { 1 },
+        None => 0,
     }
 }
 
@@ -31,15 +24,7 @@ pub extern "C" fn rlp_kind(s: &[u8]) -> u64
 pub extern "C" fn rlp_skip(s: &[u8]) -> usize
     ensures { result ≡ skip_of (head s.now) }
 {
-    let h = rlp::read_header(s);
-    match h {
-        Header::Item {
-            list: _,
-            skip,
-            size: _,
-        } => skip,
-        Header::Broken => 0,
-    }
+    rlp::read_header(s).map_or(0, |item| item.skip)
 }
 
 #[unsafe(no_mangle)]
@@ -68,22 +53,14 @@ pub extern "C" fn rlp_offset(s: &[u8], n: usize) -> usize
 pub extern "C" fn rlp_is_uint(s: &[u8]) -> bool
     ensures { result ≡ is_integer (uint_of s.now) }
 {
-    let u = rlp::read_uint(s);
-    match u {
-        Uint::Value(_) => true,
-        Uint::NotAnInteger => false,
-    }
+    rlp::read_uint(s).is_some()
 }
 
 #[unsafe(no_mangle)]
 pub extern "C" fn rlp_uint(s: &[u8]) -> u64
     ensures { result ≡ value_of (uint_of s.now) }
 {
-    let u = rlp::read_uint(s);
-    match u {
-        Uint::Value(n) => n,
-        Uint::NotAnInteger => 0,
-    }
+    rlp::read_uint(s).unwrap_or(0)
 }
 
 // Writes a string as an item, and returns its size.

@@ -2,6 +2,7 @@
 #![tactic(auto)]
 
 ghost use Rattle.std.specs.Prelude.{◌≡◌, true, ◌+◌, ◌-◌, ◌*◌, ◌≤◌, leb, length};
+ghost use Rattle.numbers.specs.Numbers.{answer_number};
 ghost use Rattle.octets.specs.Octets.{store, big_endian};
 ghost use Rattle.table_model.specs.Layout.{own_of, clock_of, count_of, header_sound, encode_header};
 ghost use Rattle.table.specs.Steps.{pick, touched_by};
@@ -9,6 +10,7 @@ ghost use Rattle.table.specs.Init.{init_answer, init_table, fresh_table};
 
 use bucket::Bucket;
 use node::MonotonicMillis;
+use numbers::Refusal;
 
 pub const HEADER_SIZE: usize = 512;
 
@@ -23,25 +25,25 @@ fn write_fresh(table: &mut [u8], key: &[u8], count: usize)
     octets::put_number(table, 40, 2, count as u64);
 }
 
-// Makes a fresh table of `count` buckets, clock 0, nothing held. The answer number is 0, or 1 or 5 and nothing is written.
-pub fn init(table: &mut [u8], key: &[u8], count: usize) -> u8
-    ensures value { result ≡ init_answer table.old key.now count }
+// Makes a fresh table of `count` buckets, clock 0, nothing held. Refused with 1 or 5, nothing is written.
+pub fn init(table: &mut [u8], key: &[u8], count: usize) -> Result<(), Refusal>
+    ensures value { answer_number result ≡ init_answer table.old key.now count }
     ensures table_after { table.new ≡ init_table table.old key.now count }
 {
     if count < 1 {
-        return numbers::UNSOUND;
+        return Err(Refusal::Unsound);
     }
     if 256 < count {
-        return numbers::UNSOUND;
+        return Err(Refusal::Unsound);
     }
     if table.len() != HEADER_SIZE + count * Bucket::SIZE {
-        return numbers::UNSOUND;
+        return Err(Refusal::Unsound);
     }
     if key.len() != 64 {
-        return numbers::WRONG_KEY;
+        return Err(Refusal::WrongKey);
     }
     write_fresh(table, key, count);
-    numbers::DONE
+    Ok(())
 }
 
 // The own hash, as the header has it.

@@ -30,12 +30,10 @@ fn buckets_sound(bytes: &[u8]) -> bool
     ensures { result ≡ buckets_sound bytes.now }
 {
     let count = table::bucket_count(bytes);
-    let mut slot = 0;
-    while slot < count {
+    for slot in 0..count {
         if !slot_sound(bytes, slot) {
             return false;
         }
-        slot += 1;
     }
     true
 }
@@ -44,8 +42,5 @@ fn buckets_sound(bytes: &[u8]) -> bool
 pub fn sound(bytes: &[u8]) -> bool
     ensures { result ≡ table_sound bytes.now }
 {
-    if table::header_sound(bytes) {
-        return buckets_sound(bytes);
-    }
-    false
+    table::header_sound(bytes) && buckets_sound(bytes)
 }

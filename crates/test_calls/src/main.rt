@@ -132,7 +132,8 @@ fn run_closest(rt: &impl Print, table: &[u8], s: &[u8]) {
 fn run_call(rt: &impl Print, table: &mut [u8], counters: Counters, s: &[u8]) -> Counters {
     match kind(s) {
         0 => {
-            print_answer(rt, discv4::init(table, key(s), number(s) as usize));
+            let answer = discv4::init(table, key(s), number(s) as usize);
+            print_answer(rt, discv4::answer_number(answer));
             counters
         }
         1 => run_datagram(rt, table, counters, s),

@@ -14,16 +14,15 @@ mod reading;
 
 use node::{Endpoint, Node};
 use packet_bodies::NodeList;
-use packet_model::EnrSeq;
 use std::io::Read;
 use test_lines::{Line, bytes_at, number, short};
-use written::Written;
+use written::WriteError;
 
-fn enr_seq(s: &[u8]) -> EnrSeq {
+fn enr_seq(s: &[u8]) -> Option<u64> {
     if number(s, 11, 1) == 0 {
-        EnrSeq::Absent
+        None
     } else {
-        EnrSeq::Present(number(s, 12, 8))
+        Some(number(s, 12, 8))
     }
 }
 
@@ -57,7 +56,7 @@ fn nodes(s: &[u8]) -> NodeList {
 }
 
 // The answer of the writer that a case names.
-fn written(s: &[u8], room: &mut [u8]) -> Written {
+fn written(s: &[u8], room: &mut [u8]) -> Result<usize, WriteError> {
     let kind = number(s, 0, 1);
     let expiration = number(s, 3, 8);
     let seq = enr_seq(s);

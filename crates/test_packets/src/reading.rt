@@ -1,18 +1,15 @@
 // The answer of reading a datagram, and its fields.
 use node::{Node, UnixSeconds};
-use packet::{
-    EnrResponse, FindNode, Neighbors, Packet, Parsed, Ping, Pong, Recipient, SenderAddress,
-};
-use packet_model::EnrSeq;
+use packet::{EnrResponse, FindNode, Neighbors, Packet, Parsed, Ping, Pong, Recipient};
 use packet_span::Span;
 use test_lines::{print, print_bytes, print_decimal, print_number};
 
-fn print_enr_seq(rt: &impl Print, e: EnrSeq) {
+fn print_enr_seq(rt: &impl Print, e: Option<u64>) {
     match e {
-        EnrSeq::Absent => {
+        None => {
             print(rt, "\t-");
         }
-        EnrSeq::Present(n) => print_number(rt, n),
+        Some(n) => print_number(rt, n),
     }
 }
 
@@ -22,12 +19,12 @@ fn print_to(rt: &impl Print, g: &[u8], to: Recipient) {
     print_number(rt, to.udp as u64);
 }
 
-fn print_from(rt: &impl Print, g: &[u8], address: SenderAddress) {
+fn print_from(rt: &impl Print, g: &[u8], address: Option<Span>) {
     match address {
-        SenderAddress::Unknown => {
+        None => {
             print(rt, "\tunknown");
         }
-        SenderAddress::Known(span) => print_bytes(rt, discv4::field_part(g, span)),
+        Some(span) => print_bytes(rt, discv4::field_part(g, span)),
     }
 }
 

@@ -15,7 +15,7 @@ use Rattle.octets.specs.Octets.{Bytes, store}
 use Rattle.octets.proofs.Laws.{store_last}
 use Rattle.lists.specs.Lists.{All}
 use Rattle.lists.proofs.Laws.{by_test, never, and_left, and_right, All-append, All-imp}
-use Rattle.text.specs.declared.Decimal.TheVariants.{Value, NotDecimal}
+use Rattle.std.specs.Prelude.{Some, None}
 use Rattle.text.specs.Decimals.{digits, decimal, is_digit, digits_from, well_begun, decimal_of}
 use Rattle.text.specs.Claims.{DecimalRead, DecimalSound}
 
@@ -99,6 +99,30 @@ store-decimal s at n i g e =
     ∙ store_last (decimal (n / 10)) s at (48 + n % 10)
     ∙ ap (λ (v : Bytes). store s at v) (sym (decimal_more n g))
 
+-- the digits of the rest are still to be written over the bytes from index at up to i, the last first
+pub record Written (old buf : Bytes) (at n rest i : ℕ) : Type 0 where
+  pub more : at < i → (i ≡ at + length (decimal rest)) × (store buf at (decimal rest) ≡ store old at (decimal n))
+  pub done : i ≤ at → buf ≡ store old at (decimal n)
+
+pub unwritten : (old : Bytes) (at n : ℕ) → Written old old at n n (at + length (decimal n))
+unwritten old at n = record { more = λ h. (refl, refl); done = λ h. absurd (omega (arith, length_least n)) }
+
+pub written-more : (old buf : Bytes) (at n rest i : ℕ) → at < i → Written old buf at n rest i → Written old (set buf (i - 1) (48 + rest % 10)) at n (rest / 10) (i - 1)
+written-more old buf at n rest i h w =
+    let m : (i ≡ at + length (decimal rest)) × (store buf at (decimal rest) ≡ store old at (decimal n)) = w.more h in
+    elim (dec_lt rest 10) [
+      | yes l ↦
+          let place : i - 1 ≡ at = omega (arith, length_one rest l) in
+          let digit : rest % 10 ≡ rest = omega arith in
+          record { more = λ g. absurd (omega arith); done = λ g. rw (place, digit) (rw (decimal_one rest l) at m.1) }
+      | no g ↦
+          let many : 10 ≤ rest = omega arith in
+          record {
+            more = λ k. (omega (arith, length_more rest many), store-decimal buf at rest (i - 1) many (omega arith) ∙ m.1);
+            done = λ k. absurd (omega (arith, length_more rest many, length_least (rest / 10)));
+          }
+    ]
+
 -- ---- reading
 
 -- a digit is read
@@ -134,7 +158,7 @@ pub decimal_read : DecimalRead
 unfolding decimal_of
 decimal_read limit n h = rw (begun n) (rw append-nil at (reads_on (suc n) limit n [] (omega arith) h))
 
-not_value : {P : Type 0} {n : ℕ} → NotDecimal ≡ Value n → P
+not_value : {P : Type 0} {n : ℕ} → None ≡ Some n → P
 not_value h = absurd (let z : ◌≡◌ {A = ℕ} 0 1 = cc in omega arith)
 
 -- what is known of a first digit that was read
@@ -142,9 +166,9 @@ record Digit (limit a b : ℕ) (s : Bytes) (n : ℕ) : Type 0 where
   low : 48 ≤ b
   high : b ≤ 57
   fits : a * 10 + (b - 48) ≤ limit
-  rest : digits_from limit (a * 10 + (b - 48)) s ≡ Value n
+  rest : digits_from limit (a * 10 + (b - 48)) s ≡ Some n
 
-digit : (limit a b : ℕ) (s : Bytes) (n : ℕ) → digits_from limit a (b ∷ s) ≡ Value n → Digit limit a b s n
+digit : (limit a b : ℕ) (s : Bytes) (n : ℕ) → digits_from limit a (b ∷ s) ≡ Some n → Digit limit a b s n
 digit limit a b s n r =
     by_test (is_digit b && leb (a * 10 + (b - 48)) limit)
     (λ e.
@@ -158,7 +182,7 @@ digit limit a b s n r =
     (λ e. not_value (rw e at r))
 
 -- the number that is read has the digits of a and then s
-digits-sound : (limit : ℕ) (s : Bytes) (a n : ℕ) → 0 < a → a ≤ limit → digits_from limit a s ≡ Value n → (decimal a ++ s ≡ decimal n) × (n ≤ limit)
+digits-sound : (limit : ℕ) (s : Bytes) (a n : ℕ) → 0 < a → a ≤ limit → digits_from limit a s ≡ Some n → (decimal a ++ s ≡ decimal n) × (n ≤ limit)
 digits-sound limit [] a n p h r = let e : a ≡ n = cc in (append-nil (decimal a) ∙ ap decimal e, omega arith)
 digits-sound limit (b ∷ s) a n p h r =
     let d : Digit limit a b s n = digit limit a b s n r in
@@ -170,7 +194,7 @@ digits-sound limit (b ∷ s) a n p h r =
 -- and so has a number read from its first digit on, if that is not `0` or stands alone
 from_first : (limit b : ℕ) (s : Bytes) (n : ℕ) → well_begun (b ∷ s) ≡ true → Digit limit 0 b s n → (b ∷ s ≡ decimal n) × (n ≤ limit)
 from_first limit b [] n w d =
-    let e : 0 * 10 + (b - 48) ≡ n = (let r : Value (0 * 10 + (b - 48)) ≡ Value n = d.rest in cc) in
+    let e : 0 * 10 + (b - 48) ≡ n = (let r : Some (0 * 10 + (b - 48)) ≡ Some n = d.rest in cc) in
     let same : 48 + n ≡ b = omega arith in
     (sym (rw same at (decimal_one n (omega arith))), omega arith)
 from_first limit b (c ∷ s) n w d =
@@ -187,13 +211,13 @@ decimal-sound limit (b ∷ s) n r =
     by_test (well_begun (b ∷ s)) (λ w. from_first limit b s n w (digit limit 0 b s n (rw w at r))) (λ w. not_value (rw w at r))
 
 -- what `push_digit` reads is where reading goes on
-pub digits_on : (limit a b m : ℕ) (s : Bytes) → digits_from limit a (b ∷ []) ≡ Value m → digits_from limit a (b ∷ s) ≡ digits_from limit m s
+pub digits_on : (limit a b m : ℕ) (s : Bytes) → digits_from limit a (b ∷ []) ≡ Some m → digits_from limit a (b ∷ s) ≡ digits_from limit m s
 digits_on limit a b m s r =
     by_test (is_digit b && leb (a * 10 + (b - 48)) limit)
-    (λ e. let same : a * 10 + (b - 48) ≡ m = (let v : Value (a * 10 + (b - 48)) ≡ Value m = rw e at r in cc) in rw e (ap (λ (x : ℕ). digits_from limit x s) same))
+    (λ e. let same : a * 10 + (b - 48) ≡ m = (let v : Some (a * 10 + (b - 48)) ≡ Some m = rw e at r in cc) in rw e (ap (λ (x : ℕ). digits_from limit x s) same))
     (λ e. not_value (rw e at r))
 
-pub digits_off : (limit a b : ℕ) (s : Bytes) → digits_from limit a (b ∷ []) ≡ NotDecimal → digits_from limit a (b ∷ s) ≡ NotDecimal
+pub digits_off : (limit a b : ℕ) (s : Bytes) → digits_from limit a (b ∷ []) ≡ None → digits_from limit a (b ∷ s) ≡ None
 digits_off limit a b s r =
     by_test (is_digit b && leb (a * 10 + (b - 48)) limit)
     (λ e. not_value (sym (rw e at r)))

@@ -3,7 +3,7 @@ use Prim.Native.Nat.{◌-◌, ◌^◌}
 use mathlib.Core.Path.{◌≡◌, refl}
 use mathlib.Core.Bool.{true, false}
 use mathlib.Core.List.{[], ◌∷◌}
-use Rattle.text.specs.declared.Decimal.TheVariants.{Value, NotDecimal}
+use Rattle.std.specs.Prelude.{Some, None}
 use Rattle.text.specs.Decimals.{digits, decimal, decimal_of}
 use Rattle.text.specs.Hex.{hex, is_hex, hex_value, unhex}
 
@@ -11,13 +11,13 @@ pub record Examples : Type 0 where
   pub zero : decimal 0 ≡ 48 ∷ []
   pub port : decimal 30303 ≡ 51 ∷ 48 ∷ 51 ∷ 48 ∷ 51 ∷ []
   pub largest : decimal (2 ^ 64 - 1) ≡ 49 ∷ 56 ∷ 52 ∷ 52 ∷ 54 ∷ 55 ∷ 52 ∷ 52 ∷ 48 ∷ 55 ∷ 51 ∷ 55 ∷ 48 ∷ 57 ∷ 53 ∷ 53 ∷ 49 ∷ 54 ∷ 49 ∷ 53 ∷ []
-  pub largest_read : decimal_of (2 ^ 64 - 1) (49 ∷ 56 ∷ 52 ∷ 52 ∷ 54 ∷ 55 ∷ 52 ∷ 52 ∷ 48 ∷ 55 ∷ 51 ∷ 55 ∷ 48 ∷ 57 ∷ 53 ∷ 53 ∷ 49 ∷ 54 ∷ 49 ∷ 53 ∷ []) ≡ Value (2 ^ 64 - 1)
-  pub too_large : decimal_of (2 ^ 64 - 1) (49 ∷ 56 ∷ 52 ∷ 52 ∷ 54 ∷ 55 ∷ 52 ∷ 52 ∷ 48 ∷ 55 ∷ 51 ∷ 55 ∷ 48 ∷ 57 ∷ 53 ∷ 53 ∷ 49 ∷ 54 ∷ 49 ∷ 54 ∷ []) ≡ NotDecimal
-  pub port_read : decimal_of 65535 (54 ∷ 53 ∷ 53 ∷ 51 ∷ 53 ∷ []) ≡ Value 65535
-  pub no_port : decimal_of 65535 (54 ∷ 53 ∷ 53 ∷ 51 ∷ 54 ∷ []) ≡ NotDecimal
-  pub two_zeros : decimal_of 65535 (48 ∷ 48 ∷ []) ≡ NotDecimal
-  pub plus : decimal_of 65535 (43 ∷ 53 ∷ []) ≡ NotDecimal
-  pub nothing : decimal_of 65535 [] ≡ NotDecimal
+  pub largest_read : decimal_of (2 ^ 64 - 1) (49 ∷ 56 ∷ 52 ∷ 52 ∷ 54 ∷ 55 ∷ 52 ∷ 52 ∷ 48 ∷ 55 ∷ 51 ∷ 55 ∷ 48 ∷ 57 ∷ 53 ∷ 53 ∷ 49 ∷ 54 ∷ 49 ∷ 53 ∷ []) ≡ Some (2 ^ 64 - 1)
+  pub too_large : decimal_of (2 ^ 64 - 1) (49 ∷ 56 ∷ 52 ∷ 52 ∷ 54 ∷ 55 ∷ 52 ∷ 52 ∷ 48 ∷ 55 ∷ 51 ∷ 55 ∷ 48 ∷ 57 ∷ 53 ∷ 53 ∷ 49 ∷ 54 ∷ 49 ∷ 54 ∷ []) ≡ None
+  pub port_read : decimal_of 65535 (54 ∷ 53 ∷ 53 ∷ 51 ∷ 53 ∷ []) ≡ Some 65535
+  pub no_port : decimal_of 65535 (54 ∷ 53 ∷ 53 ∷ 51 ∷ 54 ∷ []) ≡ None
+  pub two_zeros : decimal_of 65535 (48 ∷ 48 ∷ []) ≡ None
+  pub plus : decimal_of 65535 (43 ∷ 53 ∷ []) ≡ None
+  pub nothing : decimal_of 65535 [] ≡ None
   pub bytes : hex (0x01 ∷ 0xaf ∷ []) ≡ 48 ∷ 49 ∷ 97 ∷ 102 ∷ []
   pub bytes_read : unhex (48 ∷ 49 ∷ 97 ∷ 102 ∷ []) ≡ 0x01 ∷ 0xaf ∷ []
   pub lower_case : is_hex (97 ∷ 102 ∷ []) ≡ true

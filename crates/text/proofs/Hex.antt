@@ -10,8 +10,10 @@ use native.Mathlib.Numerals.{add-one}
 use borrow.Author.Tests.{lt-ltb, le-ltb, le-leb, lt-leb, leb-true}
 use lib.Arith.{digits_div, digits_mod}
 use lib.Dec.{ltb, leb}
-use lib.ListN.{length, get_or, take, drop, set, drop_of_length-le}
-use lib.Seq.{drop-cons, take-suc}
+use lib.ListN.{length, get_or, take, set}
+use lib.Seq.{take-suc}
+use Rattle.std.specs.List.{list_all}
+use Rattle.std.proofs.Math.Bool.{and_assoc, and-false}
 use Rattle.octets.specs.Octets.{Bytes, IsBytes, store}
 use Rattle.octets.proofs.Laws.{store-append}
 use Rattle.lists.specs.Lists.{all, empty}
@@ -191,35 +193,29 @@ unhex_at (a ∷ b ∷ s) (suc i) h =
     let f : suc (suc (2 * i)) + 1 ≡ suc (suc (2 * i + 1)) = omega arith in
     rw (e, f) (unhex_at s i (omega arith))
 
--- ---- reading on
+-- ---- whole bytes
 
--- two digits more
-pairs_two : (s : Bytes) (i : ℕ) → i + 1 < length s → hex_pairs (drop i s) ≡ ((is_hex_digit (get_or s i 0) && is_hex_digit (get_or s (i + 1) 0)) && hex_pairs (drop (i + 2) s))
-pairs_two s i h =
-    let e : i + 2 ≡ suc (suc i) = omega arith in
-    rw (add-one, e, drop-cons s i 0 (omega arith), drop-cons s (suc i) 0 (omega arith))
+-- the digits of whole bytes
+pairs_all : (s : Bytes) → length s % 2 ≡ 0 → hex_pairs s ≡ list_all is_hex_digit s
+pairs_all [] h = refl
+pairs_all (a ∷ []) h = absurd (omega arith)
+pairs_all (a ∷ b ∷ s) h = rw (pairs_all s (omega arith), and_assoc (is_hex_digit a) (is_hex_digit b) (list_all is_hex_digit s))
 
-pub pairs_on : (s : Bytes) (i : ℕ) → i + 1 < length s → is_hex_digit (get_or s i 0) ≡ true → is_hex_digit (get_or s (i + 1) 0) ≡ true → hex_pairs (drop (i + 2) s) ≡ hex_pairs (drop i s)
-pairs_on s i h a b = sym (pairs_two s i h ∙ rw (a, b))
-
-pub pairs_first : (s : Bytes) (i : ℕ) → i + 1 < length s → is_hex_digit (get_or s i 0) ≡ false → hex_pairs (drop i s) ≡ false
-pairs_first s i h a = pairs_two s i h ∙ rw a
-
-pub pairs_second : (s : Bytes) (i : ℕ) → i + 1 < length s → is_hex_digit (get_or s i 0) ≡ true → is_hex_digit (get_or s (i + 1) 0) ≡ false → hex_pairs (drop i s) ≡ false
-pairs_second s i h a b = pairs_two s i h ∙ rw (a, b)
-
-pub pairs_odd : (s : Bytes) (i : ℕ) → length s ≡ i + 1 → hex_pairs (drop i s) ≡ false
-pairs_odd s i h = rw (drop-cons s i 0 (omega arith), drop_of_length-le s {i = suc i} (omega arith))
-
-pub pairs_end : (s : Bytes) (i : ℕ) → length s ≤ i → hex_pairs (drop i s) ≡ true
-pairs_end s i h = rw (drop_of_length-le s h)
+pairs_odd : (s : Bytes) → length s % 2 ≡ 1 → hex_pairs s ≡ false
+pairs_odd [] h = absurd (omega arith)
+pairs_odd (a ∷ []) h = refl
+pairs_odd (a ∷ b ∷ s) h = rw (pairs_odd s (omega arith), and-false (is_hex_digit a && is_hex_digit b))
 
 pub hex_empty : (s : Bytes) → length s ≡ 0 → is_hex s ≡ false
 unfolding is_hex
 hex_empty [] h = refl
 hex_empty (b ∷ s) h = absurd (omega arith)
 
-pub hex_some : (s : Bytes) → 0 < length s → is_hex s ≡ hex_pairs s
+pub hex_odd : (s : Bytes) → length s % 2 ≡ 1 → is_hex s ≡ false
 unfolding is_hex
-hex_some [] h = absurd (omega arith)
-hex_some (b ∷ s) h = refl
+hex_odd s h = rw (pairs_odd s h, and-false (not (empty s)))
+
+pub hex_whole : (s : Bytes) → 0 < length s → length s % 2 ≡ 0 → is_hex s ≡ list_all is_hex_digit s
+unfolding is_hex
+hex_whole [] p h = absurd (omega arith)
+hex_whole (b ∷ s) p h = pairs_all (b ∷ s) h

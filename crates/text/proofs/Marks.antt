@@ -3,30 +3,31 @@ use Prim.Native.Nat.{ℕ, suc, ◌+◌, ◌-◌, ◌≤◌, ◌<◌}
 use mathlib.Core.Path.{◌≡◌, refl, sym, ap, ◌∙◌}
 use mathlib.Core.Bool.{Bool, true, false}
 use mathlib.Core.List.{[], ◌∷◌, ◌++◌}
-use native.Mathlib.Numerals.{add-one}
 use native.Mathlib.Omega.{arith}
-use borrow.Author.Tests.{eq-eqb, ne_eqb, eqb-true}
+use borrow.Author.Tests.{eq-eqb, eqb-true}
 use lib.Dec.{eqb}
-use lib.ListN.{length, get_or, take, drop, length-drop, drop_of_length-le, take-append-drop}
-use lib.Seq.{drop-cons, drop-drop}
+use lib.ListN.{length, take, drop, length-drop, take-append-drop}
+use lib.Seq.{drop-drop}
+use Rattle.std.specs.Option.{unwrap_or}
+use Rattle.std.specs.List.{position, position_or_len}
 use Rattle.octets.specs.Octets.{Bytes}
 use Rattle.lists.specs.Lists.{before, All}
 use Rattle.lists.proofs.Laws.{by_test}
 use Rattle.text.specs.Marks.{until}
 
--- ---- one byte after the other
+-- ---- where the mark is found
 
-pub until_stop : (mark : ℕ) (s : Bytes) (i : ℕ) → i < length s → get_or s i 0 ≡ mark → length (until mark i s) ≡ 0
-unfolding until
-until_stop mark s i h e = rw (drop-cons s i 0 h, eq-eqb (get_or s i 0) mark e)
+before_first : (q : ℕ → Bool) (s : Bytes) → length (before q s) ≡ position_or_len q s
+before_first q [] = refl
+before_first q (b ∷ s) = by_test (q b) (λ e. rw e) (λ e. rw e (omega (arith, before_first q s)))
 
-pub until_on : (mark : ℕ) (s : Bytes) (i : ℕ) → i < length s → (get_or s i 0 ≡ mark → ⊥) → length (until mark i s) ≡ length (until mark (i + 1) s) + 1
-unfolding until
-until_on mark s i h ne = rw (add-one i, drop-cons s i 0 h, ne_eqb (get_or s i 0) mark ne) (omega arith)
+length_before : (q : ℕ → Bool) (s : Bytes) → length (before q s) ≤ length s
+length_before q [] = omega arith
+length_before q (b ∷ s) = by_test (q b) (λ e. rw e (omega arith)) (λ e. rw e (omega (arith, length_before q s)))
 
-pub until_none : (mark : ℕ) (s : Bytes) (i : ℕ) → length s ≤ i → length (until mark i s) ≡ 0
+pub until_first : (mark : ℕ) (s : Bytes) (at : ℕ) → unwrap_or (position (λ b. eqb b mark) (drop at s)) (length (drop at s)) ≡ length (until mark at s)
 unfolding until
-until_none mark s i h = rw (drop_of_length-le s h)
+until_first mark s at = grind (arith, before_first (λ b. eqb b mark) (drop at s), length_before (λ b. eqb b mark) (drop at s))
 
 -- ---- what the cut leaves
 
@@ -66,10 +67,6 @@ split_until mark s at h =
     let e : at + suc n ≡ at + n + 1 = omega arith in
     split_before mark (drop at s) (omega (arith, length-drop at s))
     ∙ ap (λ (l : Bytes). before (λ (b : ℕ). eqb b mark) (drop at s) ++ mark ∷ l) (drop-drop (suc n) at s ∙ ap (λ (k : ℕ). drop k s) e)
-
-length_before : (q : ℕ → Bool) (s : Bytes) → length (before q s) ≤ length s
-length_before q [] = omega arith
-length_before q (b ∷ s) = by_test (q b) (λ e. rw e (omega arith)) (λ e. rw e (omega (arith, length_before q s)))
 
 pub until-within : (mark : ℕ) (s : Bytes) (at : ℕ) → at ≤ length s → at + length (until mark at s) ≤ length s
 unfolding until

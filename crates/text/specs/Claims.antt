@@ -1,7 +1,6 @@
 -- What is claimed of texts: a number or a byte string has one text form.
-use Rattle.std.specs.Prelude.{ℕ, ◌≤◌, ◌<◌, ◌≡◌, true, length}
+use Rattle.std.specs.Prelude.{ℕ, ◌≤◌, ◌<◌, ◌≡◌, true, length, Some}
 use Rattle.octets.specs.Octets.{Bytes, IsBytes}
-use Rattle.text.specs.declared.Decimal.TheVariants.{Value}
 use Rattle.text.specs.Decimals.{decimal, decimal_of}
 use Rattle.text.specs.Hex.{hex, is_hex, unhex}
 
@@ -9,11 +8,11 @@ use Rattle.text.specs.Hex.{hex, is_hex, unhex}
 
 -- what is written reads back
 abbrev pub DecimalRead : Type 0
-DecimalRead = (limit n : ℕ) → n ≤ limit → decimal_of limit (decimal n) ≡ Value n
+DecimalRead = (limit n : ℕ) → n ≤ limit → decimal_of limit (decimal n) ≡ Some n
 
 -- what is read is the decimal of that number
 abbrev pub DecimalSound : Type 0
-DecimalSound = (limit : ℕ) (s : Bytes) (n : ℕ) → decimal_of limit s ≡ Value n → (s ≡ decimal n) × (n ≤ limit)
+DecimalSound = (limit : ℕ) (s : Bytes) (n : ℕ) → decimal_of limit s ≡ Some n → (s ≡ decimal n) × (n ≤ limit)
 
 -- ---- a byte string
 

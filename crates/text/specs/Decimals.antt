@@ -1,9 +1,7 @@
 -- Decimal numbers as text: ASCII digits, no leading zero.
-use Rattle.std.specs.Prelude.{ℕ, zero, suc, ◌+◌, ◌-◌, ◌*◌, ◌/◌, ◌%◌, Bool, true, false, cond, ◌&&◌, [], ◌∷◌, ◌++◌, ltb, leb, eqb}
+use Rattle.std.specs.Prelude.{ℕ, zero, suc, ◌+◌, ◌-◌, ◌*◌, ◌/◌, ◌%◌, Bool, true, false, cond, ◌&&◌, [], ◌∷◌, ◌++◌, ltb, leb, eqb, Option, Some, None}
 use Rattle.octets.specs.Octets.{Bytes}
 use Rattle.lists.specs.Lists.{empty}
-use Rattle.text.specs.declared.Decimal.{Decimal}
-use Rattle.text.specs.declared.Decimal.TheVariants.{Value, NotDecimal}
 
 -- the digits of n, if `places` are enough: those of n / 10, if it is not 0, and then the last
 unfoldable pub digits : ℕ → ℕ → Bytes
@@ -20,9 +18,9 @@ abbrev pub is_digit : ℕ → Bool
 is_digit b = leb 48 b && leb b 57
 
 -- the number whose digits are those of a and then those of s, if it is at most limit and s is digits
-abbrev pub digits_from : ℕ → ℕ → Bytes → Decimal
-digits_from limit a [] = Value a
-digits_from limit a (b ∷ s) = cond (is_digit b && leb (a * 10 + (b - 48)) limit) (digits_from limit (a * 10 + (b - 48)) s) NotDecimal
+abbrev pub digits_from : ℕ → ℕ → Bytes → Option ℕ
+digits_from limit a [] = Some a
+digits_from limit a (b ∷ s) = cond (is_digit b && leb (a * 10 + (b - 48)) limit) (digits_from limit (a * 10 + (b - 48)) s) None
 
 -- not empty, and no leading zero: `0` stands alone
 abbrev pub well_begun : Bytes → Bool
@@ -30,5 +28,5 @@ well_begun [] = false
 well_begun (b ∷ s) = cond (eqb b 48) (empty s) true
 
 -- the number that s spells, if it is at most limit
-unfoldable pub decimal_of : ℕ → Bytes → Decimal
-decimal_of limit s = cond (well_begun s) (digits_from limit 0 s) NotDecimal
+unfoldable pub decimal_of : ℕ → Bytes → Option ℕ
+decimal_of limit s = cond (well_begun s) (digits_from limit 0 s) None

@@ -15,7 +15,7 @@ pub fn decimal_len(n: u64) -> usize
     let mut rest = n;
     let mut k = 1;
     while 10 <= rest {
-        rest = rest / 10;
+        rest /= 10;
         k += 1;
     }
     k
@@ -29,13 +29,10 @@ pub fn put_decimal(buf: &mut [u8], at: usize, n: u64) -> usize
 {
     let end = at + decimal_len(n);
     let mut rest = n;
-    let mut i = end - 1;
-    while 10 <= rest {
-        buf[i] = 48 + (rest % 10) as u8;
-        rest = rest / 10;
-        i -= 1;
+    for i in (at..end).rev() {
+        buf[i] = b'0' + (rest % 10) as u8;
+        rest /= 10;
     }
-    buf[i] = 48 + rest as u8;
     end
 }
 
@@ -49,71 +46,43 @@ pub fn put_marked(buf: &mut [u8], at: usize, mark: u8, n: u64) -> usize
     put_decimal(buf, at + 1, n)
 }
 
-// What a text says as a decimal.
-#[derive(Clone, Copy)]
-pub enum Decimal {
-    Value(u64),
-    // Not digits, a leading zero, empty, or over the limit.
-    NotDecimal,
-}
-
 // The number `a` with one digit more.
-fn push_digit(limit: u64, a: u64, b: u8) -> Decimal
+fn push_digit(limit: u64, a: u64, b: u8) -> Option<u64>
     ensures { result ≡ digits_from limit a (b ∷ []) }
 {
-    if b < 48 {
-        return Decimal::NotDecimal;
+    if !b.is_ascii_digit() {
+        return None;
     }
-    if 57 < b {
-        return Decimal::NotDecimal;
-    }
-    let d = octets::wide(b - 48);
-    if limit / 10 < a {
-        return Decimal::NotDecimal;
-    }
-    if limit - a * 10 < d {
-        return Decimal::NotDecimal;
-    }
-    Decimal::Value(a * 10 + d)
+    let value = a.checked_mul(10)?.checked_add(u64::from(b - b'0'))?;
+    if value <= limit { Some(value) } else { None }
 }
 
 // The number that a text of digits spells.
-fn read_digits(s: &[u8], limit: u64) -> Decimal
+fn read_digits(s: &[u8], limit: u64) -> Option<u64>
     ensures { result ≡ digits_from limit 0 s.now }
 {
-    let mut value: u64 = 0;
-    let mut i = 0;
-    while i < s.len() {
-        let Decimal::Value(next) = push_digit(limit, value, s[i]) else {
-            return Decimal::NotDecimal;
-        };
-        value = next;
-        i += 1;
+    let mut value = 0;
+    for b in s {
+        value = push_digit(limit, value, *b)?;
     }
-    Decimal::Value(value)
+    Some(value)
 }
 
 // Whether a text is not empty and has no leading zero.
 fn well_begun(s: &[u8]) -> bool
     ensures { result ≡ well_begun s.now }
 {
-    if s.len() == 0 {
-        return false;
-    }
-    if s[0] == 48 {
-        return s.len() == 1;
-    }
-    true
+    !s.is_empty() && (s[0] != b'0' || s.len() == 1)
 }
 
-// The number that a text spells, if it is at most `limit`.
-pub fn read_decimal(s: &[u8], limit: u64) -> Decimal
+// The number that a text spells, if it is digits with no leading zero, not empty, and at most `limit`.
+pub fn read_decimal(s: &[u8], limit: u64) -> Option<u64>
     ensures { result ≡ decimal_of limit s.now }
 {
     if well_begun(s) {
         read_digits(s, limit)
     } else {
-        Decimal::NotDecimal
+        None
     }
 }
 
@@ -121,7 +90,7 @@ fn hex_digit(d: u8) -> u8
     requires { d < 16 }
     ensures { result ≡ hex_digit d }
 {
-    if d < 10 { 48 + d } else { 87 + d }
+    if d < 10 { b'0' + d } else { b'a' + (d - 10) }
 }
 
 // Writes the hex of `src` from index `at`, and returns the index after it.
@@ -131,13 +100,10 @@ pub fn put_hex(buf: &mut [u8], at: usize, src: &[u8]) -> usize
     ensures bytes { buf.new ≡ store buf.old at (hex src.now) }
 {
     let mut next = at;
-    let mut i = 0;
-    while i < src.len() {
-        let b = src[i];
-        buf[next] = hex_digit(b / 16);
-        buf[next + 1] = hex_digit(b % 16);
+    for b in src {
+        buf[next] = hex_digit(*b / 16);
+        buf[next + 1] = hex_digit(*b % 16);
         next += 2;
-        i += 1;
     }
     next
 }
@@ -145,39 +111,14 @@ pub fn put_hex(buf: &mut [u8], at: usize, src: &[u8]) -> usize
 fn is_hex_digit(b: u8) -> bool
     ensures { result ≡ is_hex_digit b }
 {
-    if b < 48 {
-        return false;
-    }
-    if b <= 57 {
-        return true;
-    }
-    if b < 97 {
-        return false;
-    }
-    b <= 102
+    matches!(b, b'0'..=b'9' | b'a'..=b'f')
 }
 
 // Whether a text is whole bytes in lower-case hex, and not empty.
 pub fn is_hex(s: &[u8]) -> bool
     ensures { result ≡ is_hex s.now }
 {
-    if s.len() == 0 {
-        return false;
-    }
-    let mut i = 0;
-    while i < s.len() {
-        if s.len() - i == 1 {
-            return false;
-        }
-        if !is_hex_digit(s[i]) {
-            return false;
-        }
-        if !is_hex_digit(s[i + 1]) {
-            return false;
-        }
-        i += 2;
-    }
-    true
+    !s.is_empty() && s.len() % 2 == 0 && s.iter().all(|b| is_hex_digit(*b))
 }
 
 // The value of a hex digit.
@@ -185,7 +126,7 @@ fn hex_value(b: u8) -> u8
     ensures value { result ≡ hex_value b }
     ensures upper_bound { result < 16 }
 {
-    if b < 58 { b % 16 } else { (b % 16 + 9) % 16 }
+    if b <= b'9' { b % 16 } else { (b % 16 + 9) % 16 }
 }
 
 // Writes the bytes whose hex is `s` from index `at`, and returns the index after them.
@@ -195,10 +136,8 @@ pub fn put_unhex(buf: &mut [u8], at: usize, s: &[u8]) -> usize
     ensures bytes { buf.new ≡ store buf.old at (unhex s.now) }
 {
     let n = s.len() / 2;
-    let mut i = 0;
-    while i < n {
+    for i in 0..n {
         buf[at + i] = hex_value(s[2 * i]) * 16 + hex_value(s[2 * i + 1]);
-        i += 1;
     }
     at + n
 }
@@ -209,12 +148,6 @@ pub fn find(s: &[u8], at: usize, mark: u8) -> usize
     ensures end { result ≡ at + length (until mark at s.now) }
     ensures within { result ≤ length s.now }
 {
-    let mut i = at;
-    while i < s.len() {
-        if s[i] == mark {
-            return i;
-        }
-        i += 1;
-    }
-    i
+    let rest = &s[at..];
+    at + rest.iter().position(|b| *b == mark).unwrap_or(rest.len())
 }

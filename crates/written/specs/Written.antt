@@ -1,25 +1,24 @@
 -- The answer of a writer, and what a write leaves.
-use Rattle.std.specs.Prelude.{ℕ, ◌≡◌, Bool, true, cond, [], ◌∷◌, leb, eqb, length}
+use Rattle.std.specs.Prelude.{ℕ, ◌≡◌, Bool, true, cond, [], ◌∷◌, leb, eqb, length, Result, Ok, Err}
 use Rattle.octets.specs.Octets.{Bytes, store}
 use Rattle.lists.specs.Lists.{any}
-use Rattle.written.specs.declared.Written.{Written}
-use Rattle.written.specs.declared.Written.TheVariants.{Done, Short, Unwritable}
+use Rattle.written.specs.declared.WriteError.{WriteError}
+use Rattle.written.specs.declared.WriteError.TheVariants.{Short, Unwritable}
 
 -- 19 "room shorter than a writable value needs", 20 "value can't be written"
-abbrev pub written_number : Written → ℕ
-written_number (Done size) = 0
-written_number Short = 19
-written_number Unwritable = 20
+abbrev pub written_number : Result ℕ WriteError → ℕ
+written_number (Ok size) = 0
+written_number (Err Short) = 19
+written_number (Err Unwritable) = 20
 
 -- the bytes that were written
-abbrev pub written_size : Written → ℕ
-written_size (Done size) = size
-written_size Short = 0
-written_size Unwritable = 0
+abbrev pub written_size : Result ℕ WriteError → ℕ
+written_size (Ok size) = size
+written_size (Err e) = 0
 
 -- the answer of writing bytes at the start of a buffer, and what the buffer then holds; ok says that the value can be written
-unfoldable pub written : Bool → Bytes → Bytes → Written
-written ok bytes buf = cond ok (cond (leb (length bytes) (length buf)) (Done (length bytes)) Short) Unwritable
+unfoldable pub written : Bool → Bytes → Bytes → Result ℕ WriteError
+written ok bytes buf = cond ok (cond (leb (length bytes) (length buf)) (Ok (length bytes)) (Err Short)) (Err Unwritable)
 
 unfoldable pub written_in : Bool → Bytes → Bytes → Bytes
 written_in ok bytes buf = cond ok (cond (leb (length bytes) (length buf)) (store buf 0 bytes) buf) buf

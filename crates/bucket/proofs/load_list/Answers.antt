@@ -17,7 +17,7 @@ loop-i-preserved c = let at_loop = c in
       omega arith,
       (
         simp length-set at_loop.loop-i.invariant.1.0,
-        load_turn args.bytes.now args.at at_loop.loop-i.i at_loop.loop-i.l.items c.load_entry-e.result (omega arith) at_loop.loop-i.invariant.1.1 c.load_entry-e.ensures,
+        load_turn args.bytes.now args.at at_loop.loop-i.i at_loop.loop-i.l.items c.load_entry.result (omega arith) at_loop.loop-i.invariant.1.1 c.load_entry.ensures,
       ),
     )
 

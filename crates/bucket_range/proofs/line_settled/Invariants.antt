@@ -14,6 +14,3 @@ waits s at n e = not (is_promoted (entries_at s at n) e)
 
 abbrev pub invariant-loop-i : goal.invariant-loop-i
 invariant-loop-i l = (l.i ≤ l.m) × (all (waits l.bytes l.at l.n) (entries_at l.bytes l.line l.m) ≡ all (waits l.bytes l.at l.n) (entries_at l.bytes (l.line + l.i * 143) (l.m - l.i)))
-
-abbrev pub decreases-loop-i : goal.decreases-loop-i
-decreases-loop-i l = l.m - l.i

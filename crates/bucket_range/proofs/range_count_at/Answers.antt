@@ -5,7 +5,7 @@ use mathlib.Core.Bool.{cond}
 use native.Mathlib.Omega.{arith}
 use Rattle.bucket_model.specs.Contents.{entries_at}
 use Rattle.bucket_model.specs.Rules.{range_count}
-use Rattle.bucket_range.proofs.Laws.{counted}
+use Rattle.bucket_range.proofs.Laws.{counted, as_number}
 use Rattle.bucket_range.proofs.OnBytes.{endpoint_at, count_left, from_start, no_count}
 use Rattle.bucket_range.proofs.range_count_at.Goals as goal
 
@@ -18,14 +18,14 @@ pub same_range_at-requires : goal.same_range_at-requires
 same_range_at-requires c = (omega arith, omega arith)
 
 pub overflow_add-k : goal.overflow_add-k
-overflow_add-k c = omega (arith, c.loop-i.invariant.1, counted c.same_range_at.result c.count-k.ensures)
+overflow_add-k c = omega (arith, c.loop-i.invariant.1, counted c.same_range_at.result (c.from-k.ensures ∙ as_number c.same_range_at.result))
 
 pub loop-i-preserved : goal.loop-i-preserved
 loop-i-preserved c = let at_loop = c in
     let args = at_loop.args in
     let one = count_left args.bytes.now args.at args.n at_loop.loop-i.i (omega arith) (endpoint_at args.bytes.now args.a) in
-    let is = c.count-k.ensures ∙ ap (λ b. cond b 1 0) c.same_range_at.ensures in
-    (omega arith, omega (arith, counted c.same_range_at.result c.count-k.ensures), omega (arith, at_loop.loop-i.invariant.2, one, is))
+    let is = c.from-k.ensures ∙ as_number c.same_range_at.result ∙ ap (λ b. cond b 1 0) c.same_range_at.ensures in
+    (omega arith, omega (arith, counted c.same_range_at.result (c.from-k.ensures ∙ as_number c.same_range_at.result)), omega (arith, at_loop.loop-i.invariant.2, one, is))
 
 pub returns : goal.returns
 returns c = let at_loop = c in

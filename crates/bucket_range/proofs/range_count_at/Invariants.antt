@@ -7,6 +7,3 @@ use Rattle.bucket_range.proofs.range_count_at.Given as goal
 
 abbrev pub invariant-loop-i : goal.invariant-loop-i
 invariant-loop-i l = (l.i ≤ l.n) × (l.k ≤ l.i) × (range_count (endpoint_at l.bytes l.a) (entries_at l.bytes l.at l.n) ≡ l.k + range_count (endpoint_at l.bytes l.a) (entries_at l.bytes (l.at + l.i * 143) (l.n - l.i)))
-
-abbrev pub decreases-loop-i : goal.decreases-loop-i
-decreases-loop-i l = l.n - l.i

@@ -6,6 +6,3 @@ use Rattle.bucket_range.proofs.ranges_kept.Given as goal
 
 abbrev pub invariant-loop-i : goal.invariant-loop-i
 invariant-loop-i l = (l.i ≤ l.n) × (ranges_kept (entries_at l.bytes l.at l.n) ≡ ranges_kept (entries_at l.bytes (l.at + l.i * 143) (l.n - l.i)))
-
-abbrev pub decreases-loop-i : goal.decreases-loop-i
-decreases-loop-i l = l.n - l.i

@@ -8,6 +8,3 @@ use Rattle.bucket_sound.proofs.absent.Given as goal
 
 abbrev pub invariant-loop-i : goal.invariant-loop-i
 invariant-loop-i l = (l.i ≤ l.n) × (any (is_of (part l.bytes l.key 64)) (entries_at l.bytes l.at l.n) ≡ any (is_of (part l.bytes l.key 64)) (entries_at l.bytes (l.at + l.i * 143) (l.n - l.i)))
-
-abbrev pub decreases-loop-i : goal.decreases-loop-i
-decreases-loop-i l = l.n - l.i

@@ -6,4 +6,4 @@ use Rattle.bucket_sound.proofs.in_bucket.Goals as goal
 
 pub returns : goal.returns
 returns c = let args = c.args in
-    c.in_bucket.ensures ∙ ap (λ k. home args.own.now args.number k) (lent args.bytes.now args.at)
+    c.in_bucket.ensures ∙ ap (λ k. home args.own.now args.number k) (lent args.bytes.now args.at 64)

@@ -7,6 +7,3 @@ abbrev pub invariant-loop-i : goal.invariant-loop-i
 invariant-loop-i l = (l.i ≤ l.n)
     × (all_records (record_sound (home_if l.tested l.own l.number) l.clock.0 l.proved l.unproved) l.bytes l.at l.n
     ≡ all_records (record_sound (home_if l.tested l.own l.number) l.clock.0 l.proved l.unproved) l.bytes (l.at + l.i * 143) (l.n - l.i))
-
-abbrev pub decreases-loop-i : goal.decreases-loop-i
-decreases-loop-i l = l.n - l.i

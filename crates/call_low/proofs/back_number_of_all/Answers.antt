@@ -7,5 +7,5 @@ use Rattle.call_low.proofs.back_number_of_all.Goals as goal
 pub returns-then-sound : goal.returns-then-sound
 returns-then-sound c = sym (ap (λ b. back_number (not b)) (sym c.sound.ensures ∙ c.if-sound.true))
 
-pub returns : goal.returns
-returns c = sym (ap (λ b. back_number (not b)) (sym c.sound.ensures ∙ c.if-sound.false))
+pub returns-else-sound : goal.returns-else-sound
+returns-else-sound c = sym (ap (λ b. back_number (not b)) (sym c.sound.ensures ∙ c.if-sound.false))

@@ -1,5 +1,6 @@
 -- `call_low::low_clock` meets its contract. Assumes nothing.
 use native.Mathlib.Omega.{arith}
+use mathlib.Core.Path.{◌∙◌}
 use Rattle.call_low.proofs.Front.{no-clock, clock-of}
 use Rattle.call_low.proofs.low_clock.Goals as goal
 
@@ -7,10 +8,6 @@ pub returns-then-table-lt-HEADER_SIZE : goal.returns-then-table-lt-HEADER_SIZE
 returns-then-table-lt-HEADER_SIZE c = let a = c.args in
     no-clock a.table.now a.reading.0 (omega arith)
 
-pub returns-in-At : goal.returns-in-At
-returns-in-At c = let a = c.args in
-    clock-of a.table.now a.reading.0 (omega arith) c.clock-last.ensures c.widen.ensures c.in-At.is
-
-pub returns-in-Back : goal.returns-in-Back
-returns-in-Back c = let a = c.args in
-    clock-of a.table.now a.reading.0 (omega arith) c.clock-last.ensures c.widen.ensures c.in-Back.is
+pub returns : goal.returns
+returns c = let a = c.args in
+    c.ok_or.ensures.value ∙ clock-of a.table.now a.reading.0 (omega arith) c.clock-last.ensures c.widen.ensures

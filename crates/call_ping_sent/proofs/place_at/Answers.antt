@@ -1,10 +1,15 @@
 -- `call_ping_sent::place_at` meets its contract. Assumes nothing.
+use mathlib.Core.Path.{refl}
+use Rattle.std.proofs.lemmas.Result.{err_from_is_err_and}
 use Rattle.lists.proofs.First.{not-passed, passed_on}
-use Rattle.call_touched.specs.declared.Placed.TheVariants.{NotPlaced}
+use Rattle.call_touched.specs.Placed.{NotPlaced}
+use Rattle.call_touched.proofs.Refusals.{refused}
 use Rattle.call_ping_sent.proofs.place_at.Goals as goal
 
-pub returns-then-n-ne0 : goal.returns-then-n-ne0
-returns-then-n-ne0 c = not-passed NotPlaced _ c.ping_number-n.ensures c.if-n-ne0.true
+pub returns-in_err-ping_number : goal.returns-in_err-ping_number
+returns-in_err-ping_number c =
+    let p = err_from_is_err_and c.from_residual.result c.from_residual.ensures.1 in
+    rw (p.1, p.2) (not-passed NotPlaced _ c.in_err-ping_number.ensures (refused c.in_err-ping_number.field-0.0))
 
 pub returns : goal.returns
-returns c = passed_on NotPlaced _ c.ping_number-n.ensures c.if-n-ne0.false c.kept_place.ensures
+returns c = passed_on NotPlaced _ c.in_ok-ping_number.ensures refl c.kept_place.ensures

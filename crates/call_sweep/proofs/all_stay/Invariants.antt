@@ -7,6 +7,3 @@ use Rattle.call_sweep.proofs.all_stay.Given as goal
 
 abbrev pub invariant-loop-i : goal.invariant-loop-i
 invariant-loop-i l = (l.i ≤ l.n) × (l.stay ≡ all (stays l.waiting l.time.0) (behind l.bytes l.at l.n l.i))
-
-abbrev pub decreases-loop-i : goal.decreases-loop-i
-decreases-loop-i l = l.i

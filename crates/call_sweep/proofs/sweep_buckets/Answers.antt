@@ -56,13 +56,6 @@ sweep_bucket-requires c =
           at_loop.loop-i.i within at_loop.loop-i.invariant.1,
     )
 
-pub overflow_add-i-in-loop-i : goal.overflow_add-i-in-loop-i
-overflow_add-i-in-loop-i c =
-    let given : IsBytes c.args.bytes.now = λ k. (c.slice_known-1.given k).fits in
-    let table : SoundTable (own_of c.args.bytes.now) (clock_of c.args.bytes.now) (buckets_of c.args.bytes.now) = sound_is_table c.args.bytes.now given c.requires.0 in
-    let small : count_of c.args.bytes.now ≤ 256 = let t = table in omega (arith, t.most, count_read c.args.bytes.now) in
-    omega (arith, small, c.bucket_count-count.ensures)
-
 pub loop-i-preserved : goal.loop-i-preserved
 loop-i-preserved c =
     let given : IsBytes c.args.bytes.now = λ k. (c.slice_known-1.given k).fits in

@@ -1,5 +1,5 @@
 use mathlib.Core.Path.{◌≡◌}
-use Prim.Native.Nat.{◌-◌, ◌≤◌}
+use Prim.Native.Nat.{◌≤◌}
 use Rattle.bucket_model.specs.Rules.{on_sweep}
 use Rattle.table_model.specs.Layout.{encode_table, own_of, clock_of, buckets_of}
 use Rattle.call_sweep.proofs.Swept.{changed}
@@ -7,6 +7,3 @@ use Rattle.call_sweep.proofs.sweep_buckets.Given as goal
 
 abbrev pub invariant-loop-i : goal.invariant-loop-i
 invariant-loop-i l = (l.i ≤ l.count) × (l.bytes ≡ encode_table (own_of l.initial.bytes) (clock_of l.initial.bytes) (changed (on_sweep l.time.0) l.i (buckets_of l.initial.bytes)))
-
-abbrev pub decreases-loop-i : goal.decreases-loop-i
-decreases-loop-i l = l.count - l.i

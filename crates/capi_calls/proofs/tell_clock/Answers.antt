@@ -2,5 +2,5 @@
 use mathlib.Core.Path.{refl}
 use Rattle.capi_calls.proofs.tell_clock.Goals as goal
 
-pub returns-in-At : goal.returns-in-At
-returns-in-At c = rw c.in-At.is (refl, refl)
+pub returns-in-Ok : goal.returns-in-Ok
+returns-in-Ok c = rw c.in-Ok.is (refl, refl)

@@ -9,23 +9,17 @@ use Rattle.capi_nodes.proofs.unpacked.Goals as goal
 
 pub loop-i-init : goal.loop-i-init
 unfolding tabulate
-loop-i-init c = (omega arith, (refl, refl))
+loop-i-init c = (refl, refl)
 
-pub packed_at-node-requires : goal.packed_at-node-requires
-packed_at-node-requires c = let a = c.args in (omega (arith, few a.nodes.now c.requires), omega arith)
-
-pub offset_bounds-list-i : goal.offset_bounds-list-i
-offset_bounds-list-i c = let a = c.args in omega (arith, few a.nodes.now c.requires)
-
-pub bounds-list-i : goal.bounds-list-i
-bounds-list-i c = let a = c.args in omega (arith, few a.nodes.now c.requires)
+pub packed_at-requires : goal.packed_at-requires
+packed_at-requires c = let a = c.args in (omega (arith, few a.nodes.now c.requires), omega arith)
 
 pub loop-i-preserved : goal.loop-i-preserved
 loop-i-preserved c = let a = c.args in
     let l = c.loop-i in
-    (omega arith, (simp length-set l.invariant.1.0, turn a.nodes.now l.list l.i (omega (arith, few a.nodes.now c.requires)) l.invariant.1.1 c.packed_at-node.ensures))
+    (simp length-set l.invariant.0, turn a.nodes.now l.list l.i (omega (arith, few a.nodes.now c.requires, l.invariant.0)) l.invariant.1 c.packed_at.ensures)
 
 pub returns : goal.returns
 returns c = let a = c.args in
     let e : c.loop-i.i ≡ length a.nodes.now / 85 = omega arith in
-    (refl, rw e at c.loop-i.invariant.1.1)
+    (refl, rw e at c.loop-i.invariant.1)

@@ -25,9 +25,6 @@ offset_bounds-list-i c = omega (arith, c.requires)
 pub bounds-list-i : goal.bounds-list-i
 bounds-list-i c = omega (arith, c.requires)
 
-pub overflow_add-i : goal.overflow_add-i
-overflow_add-i c = omega (arith, c.requires)
-
 pub loop-i-preserved : goal.loop-i-preserved
 loop-i-preserved c =
     let a = c.args in

@@ -2,7 +2,9 @@
 -- a distance was worked out. Assumes nothing.
 use mathlib.Core.Path.{◌≡◌, sym, ap, ◌∙◌}
 use Prim.Native.Nat.{◌+◌, ◌-◌, ◌*◌}
+use mathlib.Core.Bool.{◌&&◌}
 use native.Mathlib.Omega.{arith}
+use borrow.Author.Rules.{rules}
 use lib.ListN.{take}
 use Rattle.octets.specs.Octets.{part}
 use Rattle.keccak.specs.Sponge.{keccak256}
@@ -27,8 +29,8 @@ loop-i-init c = let start = c in
       ),
     )
 
-pub insert-next-requires : goal.insert-next-requires
-insert-next-requires c = let at_loop = c in
+pub insert-best-requires : goal.insert-best-requires
+insert-best-requires c = let at_loop = c in
     let start = at_loop in
     let args = start.args in
     let rest = behind args.bytes.now args.at args.n at_loop.loop-i.i in
@@ -43,17 +45,18 @@ loop-i-preserved c = let at_hash = c in
     let i = at_loop.loop-i.i in
     let from = args.at + (i - 1) * 143 in
     let hash : at_hash.keccak256-hash.result ≡ keccak256 (part args.bytes.now from 64) =
-    at_hash.keccak256-hash.ensures ∙ ap keccak256 (key_slice args.bytes.now from) in (
+    at_hash.keccak256-hash.ensures ∙ ap keccak256 (key_slice args.bytes.now from) in
+    let is : c.if-here.home ≡ (c.falls_in-here.result && c.loop-i.home) = search rules in (
       omega arith,
       (
         all_turn (in_home args.own args.number) args.bytes.now args.at args.n i (omega arith) (omega arith)
             at_loop.loop-i.invariant.1.0
             (c.falls_in-here.ensures
             ∙ ap (λ h. in_bucket args.number (distance args.own h)) (hash ∙ ap keccak256 (sym (key_at args.bytes.now from))))
-            c.both-home.ensures,
+            is,
         (
           gather-turn args.bytes.now args.at args.n i (omega arith) (omega arith) args.target args.slot
-              (held args.nearest) at_loop.loop-i.invariant.1.1.0 hash c.far-far.ensures c.insert-next.ensures,
+              (held args.nearest) at_loop.loop-i.invariant.1.1.0 hash c.far-far.ensures c.insert-best.ensures,
           omega arith,
         ),
       ),

@@ -1,7 +1,6 @@
 use mathlib.Core.Path.{◌≡◌}
 use Prim.Native.Nat.{◌+◌, ◌≤◌}
 use lib.ListN.{take}
-use Rattle.distance.specs.Distance.{home}
 use Rattle.lists.specs.Lists.{all}
 use Rattle.closest_nearest.specs.Sort.{insert_all}
 use Rattle.closest_nearest.specs.Nearest.{farness, holding, held}
@@ -13,6 +12,3 @@ abbrev pub invariant-loop-i : goal.invariant-loop-i
 invariant-loop-i l = (l.i ≤ l.n)
     × ((l.home ≡ all (in_home l.own l.number) (behind l.bytes l.at l.n l.i))
     × ((l.best ≡ holding (take 16 (insert_all farness (candidates_of l.target l.slot l.i (behind l.bytes l.at l.n l.i)) (held l.initial.best)))) × (l.distances + l.i ≡ l.n)))
-
-abbrev pub decreases-loop-i : goal.decreases-loop-i
-decreases-loop-i l = l.i

@@ -8,17 +8,17 @@ use Rattle.counters.specs.History.{counted}
 use Rattle.counted_burst.proofs.Counted.{counted_next, counted_end}
 use Rattle.counted_burst.proofs.raise_all.Goals as goal
 
-pub loop-i-init : goal.loop-i-init
-loop-i-init c = (omega arith, refl)
+pub loop-number-init : goal.loop-number-init
+loop-number-init c = (omega arith, refl)
 
-pub loop-i-preserved : goal.loop-i-preserved
-loop-i-preserved c = let at_loop = c in
+pub loop-number-preserved : goal.loop-number-preserved
+loop-number-preserved c = let at_loop = c in
     let l = at_loop.args.numbers.now in (
       omega arith,
-      ap (λ (k : Counters). counted k (drop (at_loop.loop-i.i + 1) l)) c.raise-raised.ensures
-          ∙ counted_next at_loop.loop-i.raised l at_loop.loop-i.i (omega arith) ∙ at_loop.loop-i.invariant.1,
+      ap (λ (k : Counters). counted k (drop (at_loop.loop-number.number-index + 1) l)) c.raise-raised.ensures
+          ∙ counted_next at_loop.loop-number.raised l at_loop.loop-number.number-index (omega arith) ∙ at_loop.loop-number.invariant.1,
     )
 
 pub returns : goal.returns
 returns c = let at_loop = c in
-    counted_end at_loop.loop-i.raised at_loop.args.numbers.now at_loop.loop-i.i (omega arith) ∙ at_loop.loop-i.invariant.1
+    counted_end at_loop.loop-number.raised at_loop.args.numbers.now at_loop.loop-number.number-index (omega arith) ∙ at_loop.loop-number.invariant.1

@@ -1,218 +1,52 @@
--- `enode::read_keyed` meets its contract. Assumes nothing.
-use Prim.Native.Nat.{ℕ, ◌≤◌}
-use mathlib.Core.Path.{refl, sym, ◌∙◌}
-use mathlib.Core.List.{List, [], ◌∷◌}
-use lib.ListN.{length}
+-- `enode::read_keyed` meets its contract. The invariant: the octets before this one are read, and zeros follow them. Assumes nothing.
+use Prim.Native.Nat.{ℕ, ◌+◌, ◌-◌, ◌<◌}
+use mathlib.Core.Path.{◌≡◌, sym, ap, ◌∙◌}
+use native.Mathlib.Omega.{arith}
+use mathlib.Core.List.{List, [], ◌∷◌, ◌++◌}
+use lib.ListN.{length, take, drop, replicate, length-drop, length-replicate, take-append-drop}
+use lib.Seq.{drop-drop}
+use Rattle.std.proofs.lemmas.List.{drop-set-lt, drop-replicate}
 use Rattle.octets.specs.Octets.{Bytes, part}
 use Rattle.text.specs.Hex.{unhex}
-use Rattle.enode.proofs.Reading.{Read, octet-on, octet-off, then-ports}
-use native.Mathlib.Omega.{arith}
+use Rattle.enode.proofs.Reading.{field-sound, at-octet-on, at-octet-off, then-ports}
 use Rattle.enode.proofs.read_keyed.Goals as goal
-
-abbrev key : Bytes → Bytes
-key l = unhex (part l 8 128)
 
 abbrev marks : List ℕ
 marks = 46 ∷ 46 ∷ 46 ∷ 58 ∷ []
 
-begun : (l : Bytes) → 137 ≤ length l → Read (key l) marks l [] marks 137
-begun l h = record { rest = refl; small = tt; within = h }
+pub field_at-requires : goal.field_at-requires
+field_at-requires c = c.loop-i.invariant.read.within
 
-pub returns-in_default : goal.returns-in_default
-returns-in_default c = let l = c.args.line.now in
-    c.unfit.ensures ∙ sym (octet-off (key l) (begun l (omega arith)) (sym c.field_at.ensures ∙ c.in_default.is))
-
-pub field_at-requires-2 : goal.field_at-requires-2
-field_at-requires-2 c =
-    let octets_1 : let l = c.args.line.now in
-    Read (key l) marks l (c.in-Number.a ∷ []) (46 ∷ 46 ∷ 58 ∷ []) c.in-Number.next = let l = c.args.line.now in
-    octet-on (key l) (begun l (omega arith)) (sym c.field_at.ensures ∙ c.in-Number.is) in
-    octets_1.within
-
-pub returns-in_default-field_at : goal.returns-in_default-field_at
-returns-in_default-field_at c =
-    let octets_1 : let l = c.args.line.now in
-    Read (key l) marks l (c.in-Number.a ∷ []) (46 ∷ 46 ∷ 58 ∷ []) c.in-Number.next = let l = c.args.line.now in
-    octet-on (key l) (begun l (omega arith)) (sym c.field_at.ensures ∙ c.in-Number.is) in
-    c.unfit-in_default-field_at.ensures ∙ sym (octet-off _ octets_1 (sym c.field_at-2.ensures ∙ c.in_default-field_at.is))
-
-pub field_at-requires-3 : goal.field_at-requires-3
-field_at-requires-3 c =
-    let octets_1 : let l = c.args.line.now in
-    Read (key l) marks l (c.in-Number.a ∷ []) (46 ∷ 46 ∷ 58 ∷ []) c.in-Number.next = let l = c.args.line.now in
-    octet-on (key l) (begun l (omega arith)) (sym c.field_at.ensures ∙ c.in-Number.is) in
-    let octets_2 : let c₁ = c in
-    let l = c₁.args.line.now in
-    Read (key l) marks l (c₁.in-Number.a ∷ c.in-Number-field_at.b ∷ []) (46 ∷ 58 ∷ []) c.in-Number-field_at.next = octet-on _ octets_1 (sym c.field_at-2.ensures ∙ c.in-Number-field_at.is) in
-    octets_2.within
-
-pub returns-in_default-field_at-2 : goal.returns-in_default-field_at-2
-returns-in_default-field_at-2 c =
-    let octets_1 : let l = c.args.line.now in
-    Read (key l) marks l (c.in-Number.a ∷ []) (46 ∷ 46 ∷ 58 ∷ []) c.in-Number.next = let l = c.args.line.now in
-    octet-on (key l) (begun l (omega arith)) (sym c.field_at.ensures ∙ c.in-Number.is) in
-    let octets_2 : let c₁ = c in
-    let l = c₁.args.line.now in
-    Read (key l) marks l (c₁.in-Number.a ∷ c.in-Number-field_at.b ∷ []) (46 ∷ 58 ∷ []) c.in-Number-field_at.next = octet-on _ octets_1 (sym c.field_at-2.ensures ∙ c.in-Number-field_at.is) in
-    c.unfit-in_default-field_at-2.ensures ∙ sym (octet-off _ octets_2 (sym c.field_at-3.ensures ∙ c.in_default-field_at-2.is))
-
-pub field_at-requires-4 : goal.field_at-requires-4
-field_at-requires-4 c =
-    let octets_1 : let l = c.args.line.now in
-    Read (key l) marks l (c.in-Number.a ∷ []) (46 ∷ 46 ∷ 58 ∷ []) c.in-Number.next = let l = c.args.line.now in
-    octet-on (key l) (begun l (omega arith)) (sym c.field_at.ensures ∙ c.in-Number.is) in
-    let octets_2 : let c₁ = c in
-    let l = c₁.args.line.now in
-    Read (key l) marks l (c₁.in-Number.a ∷ c.in-Number-field_at.b ∷ []) (46 ∷ 58 ∷ []) c.in-Number-field_at.next = octet-on _ octets_1 (sym c.field_at-2.ensures ∙ c.in-Number-field_at.is) in
-    let octets_3 : let c₂ = c in
-    let c₁ = c₂ in
-    let l = c₁.args.line.now in
-    Read (key l) marks l (c₁.in-Number.a ∷ c₂.in-Number-field_at.b ∷ c.in-Number-field_at-2.c ∷ []) (58 ∷ []) c.in-Number-field_at-2.next = octet-on _ octets_2 (sym c.field_at-3.ensures ∙ c.in-Number-field_at-2.is) in
-    octets_3.within
-
-pub returns-in_default-field_at-3 : goal.returns-in_default-field_at-3
-returns-in_default-field_at-3 c =
-    let octets_1 : let l = c.args.line.now in
-    Read (key l) marks l (c.in-Number.a ∷ []) (46 ∷ 46 ∷ 58 ∷ []) c.in-Number.next = let l = c.args.line.now in
-    octet-on (key l) (begun l (omega arith)) (sym c.field_at.ensures ∙ c.in-Number.is) in
-    let octets_2 : let c₁ = c in
-    let l = c₁.args.line.now in
-    Read (key l) marks l (c₁.in-Number.a ∷ c.in-Number-field_at.b ∷ []) (46 ∷ 58 ∷ []) c.in-Number-field_at.next = octet-on _ octets_1 (sym c.field_at-2.ensures ∙ c.in-Number-field_at.is) in
-    let octets_3 : let c₂ = c in
-    let c₁ = c₂ in
-    let l = c₁.args.line.now in
-    Read (key l) marks l (c₁.in-Number.a ∷ c₂.in-Number-field_at.b ∷ c.in-Number-field_at-2.c ∷ []) (58 ∷ []) c.in-Number-field_at-2.next = octet-on _ octets_2 (sym c.field_at-3.ensures ∙ c.in-Number-field_at-2.is) in
-    c.unfit-in_default-field_at-3.ensures ∙ sym (octet-off _ octets_3 (sym c.field_at-4.ensures ∙ c.in_default-field_at-3.is))
-
-pub ports_of-requires : goal.ports_of-requires
-ports_of-requires c =
-    let octets_1 : let l = c.args.line.now in
-    Read (key l) marks l (c.in-Number.a ∷ []) (46 ∷ 46 ∷ 58 ∷ []) c.in-Number.next = let l = c.args.line.now in
-    octet-on (key l) (begun l (omega arith)) (sym c.field_at.ensures ∙ c.in-Number.is) in
-    let octets_2 : let c₁ = c in
-    let l = c₁.args.line.now in
-    Read (key l) marks l (c₁.in-Number.a ∷ c.in-Number-field_at.b ∷ []) (46 ∷ 58 ∷ []) c.in-Number-field_at.next = octet-on _ octets_1 (sym c.field_at-2.ensures ∙ c.in-Number-field_at.is) in
-    let octets_3 : let c₂ = c in
-    let c₁ = c₂ in
-    let l = c₁.args.line.now in
-    Read (key l) marks l (c₁.in-Number.a ∷ c₂.in-Number-field_at.b ∷ c.in-Number-field_at-2.c ∷ []) (58 ∷ []) c.in-Number-field_at-2.next = octet-on _ octets_2 (sym c.field_at-3.ensures ∙ c.in-Number-field_at-2.is) in
-    let octets_4 : let c₃ = c in
-    let c₂ = c₃ in
-    let c₁ = c₂ in
-    let l = c₁.args.line.now in
-    Read (key l) marks l (c₁.in-Number.a ∷ c₂.in-Number-field_at.b ∷ c₃.in-Number-field_at-2.c ∷ c.in-Number-field_at-3.d ∷ []) [] c.in-Number-field_at-3.next = octet-on _ octets_3 (sym c.field_at-4.ensures ∙ c.in-Number-field_at-3.is) in
-    octets_4.within
-
-pub returns-in_default-ports_of : goal.returns-in_default-ports_of
-returns-in_default-ports_of c =
-    let octets_1 : let l = c.args.line.now in
-    Read (key l) marks l (c.in-Number.a ∷ []) (46 ∷ 46 ∷ 58 ∷ []) c.in-Number.next = let l = c.args.line.now in
-    octet-on (key l) (begun l (omega arith)) (sym c.field_at.ensures ∙ c.in-Number.is) in
-    let octets_2 : let c₁ = c in
-    let l = c₁.args.line.now in
-    Read (key l) marks l (c₁.in-Number.a ∷ c.in-Number-field_at.b ∷ []) (46 ∷ 58 ∷ []) c.in-Number-field_at.next = octet-on _ octets_1 (sym c.field_at-2.ensures ∙ c.in-Number-field_at.is) in
-    let octets_3 : let c₂ = c in
-    let c₁ = c₂ in
-    let l = c₁.args.line.now in
-    Read (key l) marks l (c₁.in-Number.a ∷ c₂.in-Number-field_at.b ∷ c.in-Number-field_at-2.c ∷ []) (58 ∷ []) c.in-Number-field_at-2.next = octet-on _ octets_2 (sym c.field_at-3.ensures ∙ c.in-Number-field_at-2.is) in
-    let octets_4 : let c₃ = c in
-    let c₂ = c₃ in
-    let c₁ = c₂ in
-    let l = c₁.args.line.now in
-    Read (key l) marks l (c₁.in-Number.a ∷ c₂.in-Number-field_at.b ∷ c₃.in-Number-field_at-2.c ∷ c.in-Number-field_at-3.d ∷ []) [] c.in-Number-field_at-3.next = octet-on _ octets_3 (sym c.field_at-4.ensures ∙ c.in-Number-field_at-3.is) in
-    c.unfit-in_default-ports_of.ensures ∙ sym (then-ports _ octets_4 (sym c.ports_of.ensures ∙ c.in_default-ports_of.is))
+pub returns-in_err-octet : goal.returns-in_err-octet
+returns-in_err-octet c = let l = c.args.line.now in
+    c.from_residual.ensures ∙ sym (at-octet-off (unhex (part l 8 128)) marks c.loop-i.address (omega arith) c.loop-i.invariant.read (sym c.field_at.ensures ∙ c.in_err-octet.was))
 
 pub overflow_cast-address : goal.overflow_cast-address
-overflow_cast-address c =
-    let octets_1 : let l = c.args.line.now in
-    Read (key l) marks l (c.in-Number.a ∷ []) (46 ∷ 46 ∷ 58 ∷ []) c.in-Number.next = let l = c.args.line.now in
-    octet-on (key l) (begun l (omega arith)) (sym c.field_at.ensures ∙ c.in-Number.is) in
-    let octets_2 : let c₁ = c in
-    let l = c₁.args.line.now in
-    Read (key l) marks l (c₁.in-Number.a ∷ c.in-Number-field_at.b ∷ []) (46 ∷ 58 ∷ []) c.in-Number-field_at.next = octet-on _ octets_1 (sym c.field_at-2.ensures ∙ c.in-Number-field_at.is) in
-    let octets_3 : let c₂ = c in
-    let c₁ = c₂ in
-    let l = c₁.args.line.now in
-    Read (key l) marks l (c₁.in-Number.a ∷ c₂.in-Number-field_at.b ∷ c.in-Number-field_at-2.c ∷ []) (58 ∷ []) c.in-Number-field_at-2.next = octet-on _ octets_2 (sym c.field_at-3.ensures ∙ c.in-Number-field_at-2.is) in
-    let octets_4 : let c₃ = c in
-    let c₂ = c₃ in
-    let c₁ = c₂ in
-    let l = c₁.args.line.now in
-    Read (key l) marks l (c₁.in-Number.a ∷ c₂.in-Number-field_at.b ∷ c₃.in-Number-field_at-2.c ∷ c.in-Number-field_at-3.d ∷ []) [] c.in-Number-field_at-3.next = octet-on _ octets_3 (sym c.field_at-4.ensures ∙ c.in-Number-field_at-3.is) in
-    record { fits = octets_4.small.0 }
+overflow_cast-address c = record { fits = omega (arith, (field-sound _ 255 _ _ _ _ (sym c.field_at.ensures ∙ c.in_ok-octet.was)).most) }
 
-pub overflow_cast-address-2 : goal.overflow_cast-address-2
-overflow_cast-address-2 c =
-    let octets_1 : let l = c.args.line.now in
-    Read (key l) marks l (c.in-Number.a ∷ []) (46 ∷ 46 ∷ 58 ∷ []) c.in-Number.next = let l = c.args.line.now in
-    octet-on (key l) (begun l (omega arith)) (sym c.field_at.ensures ∙ c.in-Number.is) in
-    let octets_2 : let c₁ = c in
-    let l = c₁.args.line.now in
-    Read (key l) marks l (c₁.in-Number.a ∷ c.in-Number-field_at.b ∷ []) (46 ∷ 58 ∷ []) c.in-Number-field_at.next = octet-on _ octets_1 (sym c.field_at-2.ensures ∙ c.in-Number-field_at.is) in
-    let octets_3 : let c₂ = c in
-    let c₁ = c₂ in
-    let l = c₁.args.line.now in
-    Read (key l) marks l (c₁.in-Number.a ∷ c₂.in-Number-field_at.b ∷ c.in-Number-field_at-2.c ∷ []) (58 ∷ []) c.in-Number-field_at-2.next = octet-on _ octets_2 (sym c.field_at-3.ensures ∙ c.in-Number-field_at-2.is) in
-    let octets_4 : let c₃ = c in
-    let c₂ = c₃ in
-    let c₁ = c₂ in
-    let l = c₁.args.line.now in
-    Read (key l) marks l (c₁.in-Number.a ∷ c₂.in-Number-field_at.b ∷ c₃.in-Number-field_at-2.c ∷ c.in-Number-field_at-3.d ∷ []) [] c.in-Number-field_at-3.next = octet-on _ octets_3 (sym c.field_at-4.ensures ∙ c.in-Number-field_at-3.is) in
-    record { fits = octets_4.small.1.0 }
+pub loop-i-preserved : goal.loop-i-preserved
+loop-i-preserved c = let l = c.args.line.now in
+    let i = c.loop-i in
+    let size : i.i < length i.address = omega (arith, ap length i.invariant.zeros, length-drop i.i i.address, length-replicate {A = ℕ} (16 - i.i) 0) in
+    let more : drop (i.i + 1) i.address ≡ replicate (16 - (i.i + 1)) 0 =
+    sym (drop-drop 1 i.i i.address) ∙ ap (drop 1) i.invariant.zeros ∙ drop-replicate 1 (16 - i.i) 0 ∙ ap (λ (k : ℕ). replicate k 0) (omega arith) in
+    record {
+      read = at-octet-on (unhex (part l 8 128)) marks i.address (omega arith) i.invariant.read size (sym c.field_at.ensures ∙ c.in_ok-octet.was);
+      zeros = drop-set-lt (i.i + 1) i.address i.i _ (omega arith) ∙ more;
+    }
 
-pub overflow_cast-address-3 : goal.overflow_cast-address-3
-overflow_cast-address-3 c =
-    let octets_1 : let l = c.args.line.now in
-    Read (key l) marks l (c.in-Number.a ∷ []) (46 ∷ 46 ∷ 58 ∷ []) c.in-Number.next = let l = c.args.line.now in
-    octet-on (key l) (begun l (omega arith)) (sym c.field_at.ensures ∙ c.in-Number.is) in
-    let octets_2 : let c₁ = c in
-    let l = c₁.args.line.now in
-    Read (key l) marks l (c₁.in-Number.a ∷ c.in-Number-field_at.b ∷ []) (46 ∷ 58 ∷ []) c.in-Number-field_at.next = octet-on _ octets_1 (sym c.field_at-2.ensures ∙ c.in-Number-field_at.is) in
-    let octets_3 : let c₂ = c in
-    let c₁ = c₂ in
-    let l = c₁.args.line.now in
-    Read (key l) marks l (c₁.in-Number.a ∷ c₂.in-Number-field_at.b ∷ c.in-Number-field_at-2.c ∷ []) (58 ∷ []) c.in-Number-field_at-2.next = octet-on _ octets_2 (sym c.field_at-3.ensures ∙ c.in-Number-field_at-2.is) in
-    let octets_4 : let c₃ = c in
-    let c₂ = c₃ in
-    let c₁ = c₂ in
-    let l = c₁.args.line.now in
-    Read (key l) marks l (c₁.in-Number.a ∷ c₂.in-Number-field_at.b ∷ c₃.in-Number-field_at-2.c ∷ c.in-Number-field_at-3.d ∷ []) [] c.in-Number-field_at-3.next = octet-on _ octets_3 (sym c.field_at-4.ensures ∙ c.in-Number-field_at-3.is) in
-    record { fits = octets_4.small.1.1.0 }
+pub ports_of-requires : goal.ports_of-requires
+ports_of-requires c = c.loop-i.invariant.read.within
 
-pub overflow_cast-address-4 : goal.overflow_cast-address-4
-overflow_cast-address-4 c =
-    let octets_1 : let l = c.args.line.now in
-    Read (key l) marks l (c.in-Number.a ∷ []) (46 ∷ 46 ∷ 58 ∷ []) c.in-Number.next = let l = c.args.line.now in
-    octet-on (key l) (begun l (omega arith)) (sym c.field_at.ensures ∙ c.in-Number.is) in
-    let octets_2 : let c₁ = c in
-    let l = c₁.args.line.now in
-    Read (key l) marks l (c₁.in-Number.a ∷ c.in-Number-field_at.b ∷ []) (46 ∷ 58 ∷ []) c.in-Number-field_at.next = octet-on _ octets_1 (sym c.field_at-2.ensures ∙ c.in-Number-field_at.is) in
-    let octets_3 : let c₂ = c in
-    let c₁ = c₂ in
-    let l = c₁.args.line.now in
-    Read (key l) marks l (c₁.in-Number.a ∷ c₂.in-Number-field_at.b ∷ c.in-Number-field_at-2.c ∷ []) (58 ∷ []) c.in-Number-field_at-2.next = octet-on _ octets_2 (sym c.field_at-3.ensures ∙ c.in-Number-field_at-2.is) in
-    let octets_4 : let c₃ = c in
-    let c₂ = c₃ in
-    let c₁ = c₂ in
-    let l = c₁.args.line.now in
-    Read (key l) marks l (c₁.in-Number.a ∷ c₂.in-Number-field_at.b ∷ c₃.in-Number-field_at-2.c ∷ c.in-Number-field_at-3.d ∷ []) [] c.in-Number-field_at-3.next = octet-on _ octets_3 (sym c.field_at-4.ensures ∙ c.in-Number-field_at-3.is) in
-    record { fits = octets_4.small.1.1.1.0 }
+pub returns-in_err-udp : goal.returns-in_err-udp
+returns-in_err-udp c = let l = c.args.line.now in
+    let i = c.loop-i in
+    let end : i.i ≡ 4 = omega arith in
+    c.from_residual-in_err-udp.ensures ∙ sym (then-ports (unhex (part l 8 128)) (rw end at i.invariant.read) (sym c.ports_of.ensures ∙ c.in_err-udp.was))
 
 pub returns : goal.returns
-returns c =
-    let octets_1 : let l = c.args.line.now in
-    Read (key l) marks l (c.in-Number.a ∷ []) (46 ∷ 46 ∷ 58 ∷ []) c.in-Number.next = let l = c.args.line.now in
-    octet-on (key l) (begun l (omega arith)) (sym c.field_at.ensures ∙ c.in-Number.is) in
-    let octets_2 : let c₁ = c in
-    let l = c₁.args.line.now in
-    Read (key l) marks l (c₁.in-Number.a ∷ c.in-Number-field_at.b ∷ []) (46 ∷ 58 ∷ []) c.in-Number-field_at.next = octet-on _ octets_1 (sym c.field_at-2.ensures ∙ c.in-Number-field_at.is) in
-    let octets_3 : let c₂ = c in
-    let c₁ = c₂ in
-    let l = c₁.args.line.now in
-    Read (key l) marks l (c₁.in-Number.a ∷ c₂.in-Number-field_at.b ∷ c.in-Number-field_at-2.c ∷ []) (58 ∷ []) c.in-Number-field_at-2.next = octet-on _ octets_2 (sym c.field_at-3.ensures ∙ c.in-Number-field_at-2.is) in
-    let octets_4 : let c₃ = c in
-    let c₂ = c₃ in
-    let c₁ = c₂ in
-    let l = c₁.args.line.now in
-    Read (key l) marks l (c₁.in-Number.a ∷ c₂.in-Number-field_at.b ∷ c₃.in-Number-field_at-2.c ∷ c.in-Number-field_at-3.d ∷ []) [] c.in-Number-field_at-3.next = octet-on _ octets_3 (sym c.field_at-4.ensures ∙ c.in-Number-field_at-3.is) in
-    rw c.key_of-key.ensures (sym (then-ports _ octets_4 (sym c.ports_of.ensures ∙ c.in-Both.is)))
+returns c = let l = c.args.line.now in
+    let i = c.loop-i in
+    let end : i.i ≡ 4 = omega arith in
+    let whole : take 4 i.address ++ replicate 12 0 ≡ i.address = ap (λ (z : Bytes). take 4 i.address ++ z) (sym (rw end at i.invariant.zeros)) ∙ take-append-drop 4 i.address in
+    rw (c.key_of-key.ensures, sym whole) (sym (then-ports (unhex (part l 8 128)) (rw end at i.invariant.read) (sym c.ports_of.ensures ∙ c.in_ok-udp.was)))

@@ -20,7 +20,7 @@ unfolding line_after acts_of
 returns-in-Own c = let a = c.args in
     let t = c.take_own-made.ensures in
     by_line a.key.now a.replay a.place a.line.now a.memory.now _ (sym c.read_line-said.ensures ∙ c.in-Own.is)
-    t.state (own-acted a.key.now a.replay a.place a.line.now a.memory.now _ t c.idle-acted.ensures) t.count
+    t.state (own-acted a.key.now a.replay a.place a.line.now a.memory.now _ t c.idle.ensures) t.count
 
 pub rx-acted-requires : goal.rx-acted-requires
 rx-acted-requires c = let a = c.args in
@@ -84,4 +84,4 @@ unfolding line_after acts_of
 returns-in-Unreadable c = let a = c.args in
     let p = c.requires in
     by_line a.key.now a.replay a.place a.line.now a.memory.now _ (sym c.read_line-said.ensures ∙ c.in-Unreadable.is)
-    refl c.idle-acted-in-Unreadable.ensures p.1.0
+    refl c.idle-acted.ensures p.1.0

@@ -1,4 +1,5 @@
 -- `log_replay::sent` meets its contract. Assumes nothing.
+use mathlib.Core.Path.{◌∙◌}
 use Rattle.call_history.specs.Model.{ping_sent}
 use Rattle.call_model.specs.Calls.{answer_on, bytes_after}
 use Rattle.call_model.specs.Reading.{reading}
@@ -16,6 +17,6 @@ returns c = let a = c.args in
     (decoded (c.decode_field-k.ensures.count, (c.decode_field-k.ensures.bytes, c.decode_field-k.ensures.most)))
     (decoded (c.decode_field-a.ensures.count, (c.decode_field-a.ensures.bytes, c.decode_field-a.ensures.most)))
     (decoded (c.decode_field-n.ensures.count, (c.decode_field-n.ensures.bytes, c.decode_field-n.ensures.most)))
-    (c.ping_sent_on_sound-number.ensures.value, c.ping_sent_on_sound-number.ensures.table_after)
+    (c.answer_number.ensures ∙ c.ping_sent_on_sound-answer.ensures.value, c.ping_sent_on_sound-answer.ensures.table_after)
     (c.put_number.ensures.len, (c.put_number.ensures.bytes, c.put_number.ensures.size)) in
     record { len = whole.0; written = whole.1.0; bytes = whole.1.1.0; room = whole.1.1.1 }

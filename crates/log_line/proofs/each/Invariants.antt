@@ -1,12 +1,14 @@
-use Prim.Native.Nat.{◌-◌, ◌≤◌}
 use mathlib.Core.Path.{◌≡◌}
-use lib.ListN.{take, drop}
+use lib.ListN.{length}
+use Rattle.std.specs.Iterator.Adapters.{zip_first, zip_second}
+use Rattle.std.specs.Slice.Iter.{iter_rest}
+use Rattle.log_line.specs.Fields.{Within}
 use Rattle.log_line.specs.Forms.{each}
-use Rattle.log_line.proofs.Reading.{each_from}
 use Rattle.log_line.proofs.each.Given as goal
 
-abbrev pub invariant-loop-i : goal.invariant-loop-i
-invariant-loop-i l = (l.i ≤ l.n) × (each_from l.line l.kinds l.spans l.n l.i ≡ each l.line (take l.n l.kinds) (take l.n (drop 1 l.spans)))
-
-abbrev pub decreases-loop-i : goal.decreases-loop-i
-decreases-loop-i l = l.n - l.i
+abbrev pub invariant-loop-kind : goal.invariant-loop-kind
+invariant-loop-kind l = record {
+  size : length (iter_rest (zip_second l.kind-iterator)) ≡ length (iter_rest (zip_first l.kind-iterator));
+  within : Within l.line (iter_rest (zip_second l.kind-iterator));
+  rest : each l.line (iter_rest (zip_first l.kind-iterator)) (iter_rest (zip_second l.kind-iterator)) ≡ each l.line l.kinds l.spans;
+}

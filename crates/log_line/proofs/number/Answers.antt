@@ -1,12 +1,17 @@
 -- `log_line::number` meets its contract. Assumes nothing.
-use mathlib.Core.Path.{sym, ap, ◌∙◌}
-use Rattle.text.specs.Decimals.{decimal_of}
-use Rattle.log_line.proofs.Reading.{number_value, number_none}
+use mathlib.Core.Path.{◌≡◌, ap, ◌∙◌}
 use native.Mathlib.Omega.{arith}
+use Rattle.std.specs.Prelude.{Option}
+use Rattle.std.specs.Option.{unwrap_or}
+use Prim.Native.Nat.{ℕ}
+use Rattle.text.specs.Decimals.{decimal_of}
+use Rattle.log_line.specs.Forms.{number}
+use Rattle.log_line.proofs.Numbers.{number-most}
 use Rattle.log_line.proofs.number.Goals as goal
 
-pub returns-in_default : goal.returns-in_default
-returns-in_default c = let a = c.args in record { number = number_none a.max a.line.now a.f (ap (decimal_of a.max) (sym c.text_of.ensures) ∙ sym c.read_decimal.ensures ∙ c.in_default.is); bound = omega arith }
-
 pub returns : goal.returns
-returns c = let a = c.args in record { number = (number_value a.max a.line.now a.f _ (ap (decimal_of a.max) (sym c.text_of.ensures) ∙ sym c.read_decimal.ensures ∙ c.in-Value.is)).0; bound = (number_value a.max a.line.now a.f _ (ap (decimal_of a.max) (sym c.text_of.ensures) ∙ sym c.read_decimal.ensures ∙ c.in-Value.is)).1 }
+unfolding number
+returns c = let a = c.args in
+    let e : c.unwrap_or.result ≡ number a.max a.line.now a.f =
+    c.unwrap_or.ensures ∙ ap (λ (o : Option ℕ). unwrap_or o 0) (c.read_decimal.ensures ∙ ap (decimal_of a.max) c.text_of.ensures) in
+    record { number = e; bound = omega (arith, e, number-most a.max a.line.now a.f) }

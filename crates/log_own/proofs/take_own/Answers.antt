@@ -1,5 +1,5 @@
 -- `log_own::take_own` meets its contract. Assumes nothing.
-use mathlib.Core.Path.{◌≡◌, refl}
+use mathlib.Core.Path.{◌≡◌, refl, ◌∙◌}
 use mathlib.Core.Bool.{cond}
 use lib.Dec.{eqb}
 use Rattle.octets.specs.Octets.{store}
@@ -17,20 +17,24 @@ returns-then-replay c = let a = c.args in
 
 pub returns-then-number-eq0 : goal.returns-then-number-eq0
 returns-then-number-eq0 c =
-    let made : let a = c.args in let m = c.make-number in let key = said a.line.now a.key in
-    (m.result ≡ own_number a.buckets key) × (m.new.memory ≡ cond (eqb m.result 0) (store a.memory.now 0 (fresh_table key a.buckets)) a.memory.now) = let key = decoded (c.decode_field-n.ensures.count, (c.decode_field-n.ensures.bytes, c.decode_field-n.ensures.most)) in
-    (rw key at c.make-number.ensures.number, rw key at c.make-number.ensures.bytes) in
+    let n = c.answer_number-number.result in
+    let made : let a = c.args in let key = said a.line.now a.key in
+    (n ≡ own_number a.buckets key) × (c.make.new.memory ≡ cond (eqb n 0) (store a.memory.now 0 (fresh_table key a.buckets)) a.memory.now) =
+    let key = decoded (c.decode_field-n.ensures.count, (c.decode_field-n.ensures.bytes, c.decode_field-n.ensures.most)) in
+    (c.answer_number-number.ensures ∙ rw key at c.make.ensures.number, rw (c.answer_number-number.ensures) (rw key at c.make.ensures.bytes)) in
     let a = c.args in
     let p = c.requires in
-    own-accepted a.replay a.memory.now p.0 p.1.0 a.buckets (said a.line.now a.key) c.make-number.result c.if-replay.false
+    own-accepted a.replay a.memory.now p.0 p.1.0 a.buckets (said a.line.now a.key) n c.if-replay.false
     made.0 c.if-number-eq0.true made.1
 
 pub returns : goal.returns
 returns c =
-    let made : let a = c.args in let m = c.make-number in let key = said a.line.now a.key in
-    (m.result ≡ own_number a.buckets key) × (m.new.memory ≡ cond (eqb m.result 0) (store a.memory.now 0 (fresh_table key a.buckets)) a.memory.now) = let key = decoded (c.decode_field-n.ensures.count, (c.decode_field-n.ensures.bytes, c.decode_field-n.ensures.most)) in
-    (rw key at c.make-number.ensures.number, rw key at c.make-number.ensures.bytes) in
+    let n = c.answer_number-number.result in
+    let made : let a = c.args in let key = said a.line.now a.key in
+    (n ≡ own_number a.buckets key) × (c.make.new.memory ≡ cond (eqb n 0) (store a.memory.now 0 (fresh_table key a.buckets)) a.memory.now) =
+    let key = decoded (c.decode_field-n.ensures.count, (c.decode_field-n.ensures.bytes, c.decode_field-n.ensures.most)) in
+    (c.answer_number-number.ensures ∙ rw key at c.make.ensures.number, rw (c.answer_number-number.ensures) (rw key at c.make.ensures.bytes)) in
     let a = c.args in
     let p = c.requires in
-    own-refused a.replay a.memory.now p.0 p.1.0 a.buckets (said a.line.now a.key) c.make-number.result c.if-replay.false
+    own-refused a.replay a.memory.now p.0 p.1.0 a.buckets (said a.line.now a.key) n c.if-replay.false
     made.0 c.if-number-eq0.false made.1

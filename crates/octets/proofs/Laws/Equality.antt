@@ -3,12 +3,9 @@ use mathlib.Core.Path.{◌≡◌, refl}
 use mathlib.Core.Logic.{◌≢◌}
 use mathlib.Core.Bool.{Bool, true, false, ◌&&◌}
 use mathlib.Core.List.{[], ◌∷◌}
-use Prim.Native.Nat.{ℕ, ◌+◌, ◌≤◌, ◌<◌}
-use borrow.Author.Tests.{eq-eqb, ne_eqb, eqb-true}
+use borrow.Author.Tests.{eq-eqb, eqb-true}
 use lib.Dec.{eqb}
-use lib.ListN.{length, drop, get_or, drop_of_length-le}
-use native.Mathlib.Numerals.{add-one}
-use lib.Seq.{drop-cons}
+use Rattle.std.specs.Prelude.{Decides}
 use Rattle.octets.specs.Octets.{Bytes, same_bytes}
 
 pub same_refl : (s : Bytes) → same_bytes s s ≡ true
@@ -36,18 +33,6 @@ same_ne s t ne = by_answer (same_bytes s t) refl
     by_answer true e = absurd (ne (same_eq s t e))
     by_answer false e = refl
 
--- the first i bytes are equal, and so is the next one
-pub same_next : (s t : Bytes) (i : ℕ) → i < length s → i < length t → get_or s i 0 ≡ get_or t i 0
-    → same_bytes (drop (i + 1) s) (drop (i + 1) t) ≡ same_bytes (drop i s) (drop i t)
-unfolding same_bytes
-same_next s t i hs ht e = rw (add-one, drop-cons s i 0, drop-cons t i 0, eq-eqb (get_or s i 0) (get_or t i 0) e)
-
--- the next byte differs
-pub same_differs : (s t : Bytes) (i : ℕ) → i < length s → i < length t → get_or s i 0 ≢ get_or t i 0 → same_bytes (drop i s) (drop i t) ≡ false
-unfolding same_bytes
-same_differs s t i hs ht ne = rw (drop-cons s i 0, drop-cons t i 0, ne_eqb (get_or s i 0) (get_or t i 0) ne)
-
--- no byte is left on either side
-pub same_end : (s t : Bytes) (i : ℕ) → length s ≤ i → length t ≤ i → same_bytes (drop i s) (drop i t) ≡ true
-unfolding same_bytes
-same_end s t i hs ht = rw (drop_of_length-le s hs, drop_of_length-le t ht)
+-- the test decides whether two strings are equal
+pub same_decides : (s t : Bytes) → Decides (same_bytes s t) (s ≡ t)
+same_decides s t = (same_eq s t, λ e. rw e (same_refl t))

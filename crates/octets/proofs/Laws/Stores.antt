@@ -1,12 +1,15 @@
 -- Laws of stores. Assumes nothing.
 use mathlib.Core.Path.{◌≡◌, refl, sym, ap, ◌∙◌}
 use mathlib.Core.Logic.{◌≢◌}
-use mathlib.Core.List.{List, [], ◌∷◌, ◌++◌}
+use mathlib.Core.List.{List, [], ◌∷◌, ◌++◌, append_assoc}
 use Prim.Native.Nat.{ℕ, suc, ◌+◌, ◌≤◌, ◌<◌}
 use native.Mathlib.Omega.{arith}
-use lib.ListN.{length, take, drop, set, get_or, length-set, replicate, length-replicate, replicate-append-replicate}
+use lib.ListN.{length, take, drop, set, get_or, length-set}
 use native.Mathlib.Numerals.{add-one}
 use lib.Seq.{set_comm, sets, sets-eq, take-suc, length-take-le}
+use borrow.Rule.Slice.PartMut.{put_mid}
+use Rattle.std.proofs.lemmas.List.Edits.{paste_all}
+use Rattle.std.proofs.lemmas.Slice.{put_mid-paste}
 use Rattle.octets.specs.Octets.{store}
 
 pub length-store : {A : Type 0} (v s : List A) (at : ℕ) → length (store s at v) ≡ length s
@@ -40,6 +43,15 @@ store_sets (b ∷ v) s at = store_sets v (set s at b) (suc at)
 pub store-eq : {A : Type 0} (v s : List A) (at : ℕ) → at + length v ≤ length s → store s at v ≡ take at s ++ v ++ drop (at + length v) s
 store-eq v s at h = store_sets v s at ∙ sets-eq v s at h
 
+-- what a write to the part of a slice from index `at` leaves
+pub store_part : {A : Type 0} (s v w : List A) (at k : ℕ) → w ≡ v → k ≡ length v → at + length v ≤ length s → put_mid at k s w ≡ store s at v
+store_part s v w at k e n h =
+    put_mid-paste at k s w v k e refl n
+    ∙ paste_all s at v k n
+    ∙ ap (λ (j : ℕ). take at s ++ (v ++ drop (at + j) s)) n
+    ∙ sym (append_assoc (take at s) v (drop (at + length v) s))
+    ∙ sym (store-eq v s at h)
+
 -- one element more is stored
 pub store_next : {A : Type 0} (s v : List A) (at : ℕ) (b : A) → set (store s at v) (at + length v) b ≡ store s at (v ++ (b ∷ []))
 store_next s v at b = sym (store-append v (b ∷ []) s at)
@@ -52,10 +64,3 @@ store-take s src at i h =
     ap (λ (k : ℕ). set (store s at (take i src)) (at + k) (get_or src i 0)) (sym n)
     ∙ store_next s (take i src) at (get_or src i 0)
     ∙ ap (λ (v : List ℕ). store s at v) t
-
--- one zero more is stored
-pub store_zeros : (s : List ℕ) (at i : ℕ) → set (store s at (replicate i 0)) (at + i) 0 ≡ store s at (replicate (i + 1) 0)
-store_zeros s at i =
-    ap (λ (k : ℕ). set (store s at (replicate i 0)) (at + k) 0) (sym (length-replicate i 0))
-    ∙ store_next s (replicate i 0) at 0
-    ∙ ap (λ (v : List ℕ). store s at v) (replicate-append-replicate i 1 0)

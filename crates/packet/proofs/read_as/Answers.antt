@@ -18,15 +18,15 @@ packet_of-requires c = let a = c.args in
 
 pub returns-in-Good : goal.returns-in-Good
 returns-in-Good c = let a = c.args in
-    read-good a.t a.base a.bytes.now _ _ _ _ c.kinds_of.ensures c.count_of.ensures.0 c.required_of.ensures c.check_data.ensures
+    read-good a.t a.base a.bytes.now _ c.check.ensures
     c.in-Good.is _ _ _ c.item_payload-span.ensures c.bytes_of.ensures c.packet_of.ensures
 
 pub returns-in-Broken : goal.returns-in-Broken
 returns-in-Broken c = let a = c.args in
-    read-refused a.t a.base a.bytes.now _ _ _ _ c.kinds_of.ensures c.count_of.ensures.0 c.required_of.ensures c.check_data.ensures
+    read-refused a.t a.base a.bytes.now _ c.check.ensures
     (λ p. ap (λ v. answered v p) c.in-Broken.is)
 
 pub returns-in-Wrong : goal.returns-in-Wrong
 returns-in-Wrong c = let a = c.args in
-    read-refused a.t a.base a.bytes.now _ _ _ _ c.kinds_of.ensures c.count_of.ensures.0 c.required_of.ensures c.check_data.ensures
+    read-refused a.t a.base a.bytes.now _ c.check.ensures
     (λ p. ap (λ v. answered v p) c.in-Wrong.is)

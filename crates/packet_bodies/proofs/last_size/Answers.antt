@@ -10,17 +10,17 @@ use Rattle.packet_bodies.proofs.last_size.Goals as goal
 
 pub overflow_add-result : goal.overflow_add-result
 overflow_add-result c = let a = c.args in
-    omega (arith, c.uint_size.ensures, c.uint_size-size.ensures, uint-width 8 a.expiration (omega arith) (search rules), uint-width 8 c.in-Present.n (omega arith) (search rules))
+    omega (arith, c.uint_size.ensures, c.uint_size-size.ensures, uint-width 8 a.expiration (omega arith) (search rules), uint-width 8 c.in-Some.n (omega arith) (search rules))
 
-pub returns-in-Absent : goal.returns-in-Absent
-returns-in-Absent c = let x = c.args.expiration in
+pub returns-in-None : goal.returns-in-None
+returns-in-None c = let x = c.args.expiration in
     let s = c.uint_size-size.ensures in
     let b = uint-width 8 x (omega arith) (search rules) in
-    (omega (arith, ap length (last_absent x c.in-Absent.is), total_size (uint x ∷ []), s), omega (arith, s, b))
+    (omega (arith, ap length (last_absent x c.in-None.is), total_size (uint x ∷ []), s), omega (arith, s, b))
 
-pub returns-in-Present : goal.returns-in-Present
-returns-in-Present c = let x = c.args.expiration in
+pub returns-in-Some : goal.returns-in-Some
+returns-in-Some c = let x = c.args.expiration in
     let s = c.uint_size-size.ensures in
     let b = uint-width 8 x (omega arith) (search rules) in
-    let k = uint-width 8 c.in-Present.n (omega arith) (search rules) in
-    (omega (arith, ap length (last_present x c.in-Present.is), total_size (uint x ∷ uint c.in-Present.n ∷ []), s, c.uint_size.ensures), omega (arith, s, c.uint_size.ensures, b, k))
+    let k = uint-width 8 c.in-Some.n (omega arith) (search rules) in
+    (omega (arith, ap length (last_present x c.in-Some.is), total_size (uint x ∷ uint c.in-Some.n ∷ []), s, c.uint_size.ensures), omega (arith, s, c.uint_size.ensures, b, k))

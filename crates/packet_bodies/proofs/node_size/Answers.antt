@@ -1,22 +1,12 @@
 -- `packet_bodies::node_size` meets its contract. Assumes nothing.
-use mathlib.Core.Path.{◌≡◌, sym}
+use mathlib.Core.Path.{◌≡◌}
 use native.Mathlib.Omega.{arith}
 use lib.ListN.{length, take}
 use Rattle.packet_model.proofs.From.{address_sender}
-use Rattle.packet_bodies.proofs.Nodes.{address-within, address_length, address_is}
+use Rattle.packet_bodies.proofs.Nodes.{address_is}
 use Rattle.packet_bodies.proofs.Sizes as sizes
 use borrow.Author.Rules.{rules}
 use Rattle.packet_bodies.proofs.node_size.Goals as goal
-
-pub slice_bounds-address-end : goal.slice_bounds-address-end
-slice_bounds-address-end c =
-    let e = c.args.node.endpoint in
-    address-within e.len e.address c.requires (search rules)
-
-pub slice_bounds-fields_size-end : goal.slice_bounds-fields_size-end
-slice_bounds-fields_size-end c =
-    let e = c.args.node.endpoint in
-    sym (address_length e.len e.address c.requires (search rules))
 
 pub fields_size-requires : goal.fields_size-requires
 fields_size-requires c =

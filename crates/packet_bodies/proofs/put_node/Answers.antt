@@ -1,23 +1,9 @@
 -- `packet_bodies::put_node` meets its contract. Assumes nothing.
-use mathlib.Core.Path.{◌≡◌, sym}
+use mathlib.Core.Path.{◌≡◌}
 use lib.ListN.{length}
-use Rattle.packet_bodies.proofs.Nodes.{address-within, address_length, address_is}
+use Rattle.packet_bodies.proofs.Nodes.{address_is}
 use borrow.Author.Rules.{rules}
 use Rattle.packet_bodies.proofs.put_node.Goals as goal
-
-pub slice_bounds-address-end : goal.slice_bounds-address-end
-slice_bounds-address-end c =
-    let address_array : length c.args.node.endpoint.address ≡ 16 = search rules in
-    let s = c in
-    let e = s.args.node.endpoint in
-    address-within e.len e.address s.requires.0 address_array
-
-pub slice_bounds-put_keyed-end : goal.slice_bounds-put_keyed-end
-slice_bounds-put_keyed-end c =
-    let address_array : length c.args.node.endpoint.address ≡ 16 = search rules in
-    let s = c in
-    let e = s.args.node.endpoint in
-    sym (address_length e.len e.address s.requires.0 address_array)
 
 pub put_keyed-requires : goal.put_keyed-requires
 put_keyed-requires c =

@@ -1,4 +1,4 @@
--- `packet_schema::is_record` meets its contract. Assumes nothing.
+-- `packet_kinds::is_record` meets its contract. Assumes nothing.
 use mathlib.Core.Path.{ap}
 use Prim.Native.Nat.{ℕ}
 use lib.Dec.{leb}

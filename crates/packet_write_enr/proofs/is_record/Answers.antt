@@ -13,15 +13,15 @@ pub returns-in_default : goal.returns-in_default
 returns-in_default c = record_by c.args.«record».now c.if-record-le300.true (sym c.read_header.ensures ∙ c.in_default.is)
 
 pub overflow_add-result : goal.overflow_add-result
-overflow_add-result c = omega (arith, c.if-record-le300.true, item-bounds c.args.«record».now (sym c.read_header.ensures ∙ c.in-Item.is))
+overflow_add-result c = omega (arith, c.if-record-le300.true, item-bounds c.args.«record».now (sym c.read_header.ensures ∙ c.in-Some.is))
 
-pub returns-then-list : goal.returns-then-list
-returns-then-list c = let r = c.args.«record».now in
-    sym (ap (λ (b : Bool). b && eqb (c.in-Item.skip + c.in-Item.size) (length r)) c.if-list.true) ∙ record_by r c.if-record-le300.true (sym c.read_header.ensures ∙ c.in-Item.is)
+pub returns-then-item : goal.returns-then-item
+returns-then-item c = let r = c.args.«record».now in
+    sym (ap (λ (b : Bool). b && eqb (c.in-Some.item.skip + c.in-Some.item.size) (length r)) c.if-item.true) ∙ record_by r c.if-record-le300.true (sym c.read_header.ensures ∙ c.in-Some.is)
 
-pub returns-else-list : goal.returns-else-list
-returns-else-list c = let r = c.args.«record».now in
-    sym (ap (λ (b : Bool). b && eqb (c.in-Item.skip + c.in-Item.size) (length r)) c.if-list.false) ∙ record_by r c.if-record-le300.true (sym c.read_header.ensures ∙ c.in-Item.is)
+pub returns-else-item : goal.returns-else-item
+returns-else-item c = let r = c.args.«record».now in
+    sym (ap (λ (b : Bool). b && eqb (c.in-Some.item.skip + c.in-Some.item.size) (length r)) c.if-item.false) ∙ record_by r c.if-record-le300.true (sym c.read_header.ensures ∙ c.in-Some.is)
 
 pub returns-else-record-le300 : goal.returns-else-record-le300
 returns-else-record-le300 c = record_long c.args.«record».now c.if-record-le300.false

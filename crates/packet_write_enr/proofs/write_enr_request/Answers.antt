@@ -19,18 +19,18 @@ pub write_uint-requires : goal.write_uint-requires
 write_uint-requires c =
     let items : List Item = enr_request_items c.args.expiration [] in
     let size_is : c.uint_size-size.result ≡ length (encodes items) = omega (arith, total_size items, c.uint_size-size.ensures) in
-    let begun : Begun 5 c.uint_size-size.result (pieces items) c.args.buf.now = begin 5 items size_is (concat_pieces items) (omega (arith, c.if-body_size-buf.true, c.body_size.ensures)) in
+    let begun : Begun 5 c.uint_size-size.result (pieces items) c.args.buf.now = begin 5 items size_is (concat_pieces items) (omega (arith, c.if-buf-body_size.false, c.body_size.ensures)) in
     room (step begun (c.put_start-at.ensures.next, c.put_start-at.ensures.bytes))
-
-pub returns-then-body_size-buf : goal.returns-then-body_size-buf
-returns-then-body_size-buf c =
-    let items : List Item = enr_request_items c.args.expiration [] in
-    let size_is : c.uint_size-size.result ≡ length (encodes items) = omega (arith, total_size items, c.uint_size-size.ensures) in
-    let begun : Begun 5 c.uint_size-size.result (pieces items) c.args.buf.now = begin 5 items size_is (concat_pieces items) (omega (arith, c.if-body_size-buf.true, c.body_size.ensures)) in
-    record { answer = (end 5 items size_is (concat_pieces items) refl (step (step begun (c.put_start-at.ensures.next, c.put_start-at.ensures.bytes)) (c.write_uint.ensures.next, c.write_uint.ensures.bytes))).0; bytes = (end 5 items size_is (concat_pieces items) refl (step (step begun (c.put_start-at.ensures.next, c.put_start-at.ensures.bytes)) (c.write_uint.ensures.next, c.write_uint.ensures.bytes))).1 }
 
 pub returns : goal.returns
 returns c =
     let items : List Item = enr_request_items c.args.expiration [] in
     let size_is : c.uint_size-size.result ≡ length (encodes items) = omega (arith, total_size items, c.uint_size-size.ensures) in
-    record { answer = (too_short 5 items size_is refl (omega (arith, c.if-body_size-buf.false, c.body_size.ensures))).0; bytes = (too_short 5 items size_is refl (omega (arith, c.if-body_size-buf.false, c.body_size.ensures))).1 }
+    let begun : Begun 5 c.uint_size-size.result (pieces items) c.args.buf.now = begin 5 items size_is (concat_pieces items) (omega (arith, c.if-buf-body_size.false, c.body_size.ensures)) in
+    record { answer = (end 5 items size_is (concat_pieces items) refl (step (step begun (c.put_start-at.ensures.next, c.put_start-at.ensures.bytes)) (c.write_uint.ensures.next, c.write_uint.ensures.bytes))).0; bytes = (end 5 items size_is (concat_pieces items) refl (step (step begun (c.put_start-at.ensures.next, c.put_start-at.ensures.bytes)) (c.write_uint.ensures.next, c.write_uint.ensures.bytes))).1 }
+
+pub returns-then-buf-body_size : goal.returns-then-buf-body_size
+returns-then-buf-body_size c =
+    let items : List Item = enr_request_items c.args.expiration [] in
+    let size_is : c.uint_size-size.result ≡ length (encodes items) = omega (arith, total_size items, c.uint_size-size.ensures) in
+    record { answer = (too_short 5 items size_is refl (omega (arith, c.if-buf-body_size.true, c.body_size.ensures))).0; bytes = (too_short 5 items size_is refl (omega (arith, c.if-buf-body_size.true, c.body_size.ensures))).1 }

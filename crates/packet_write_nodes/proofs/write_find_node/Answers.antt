@@ -26,33 +26,33 @@ pub write_string-at-requires : goal.write_string-at-requires
 write_string-at-requires c =
     let items : List Item = find_node_items c.args.target.now c.args.expiration [] in
     let size_is : 66 + c.uint_size-size.result ≡ length (encodes items) = omega (arith, total_size items, string_long c.args.target.now (omega arith) (omega arith), c.uint_size-size.ensures) in
-    let begun : Begun 3 (66 + c.uint_size-size.result) (pieces items) c.args.buf.now = begin 3 items size_is (concat_pieces items) (omega (arith, c.if-body_size-buf.true, c.body_size.ensures)) in
+    let begun : Begun 3 (66 + c.uint_size-size.result) (pieces items) c.args.buf.now = begin 3 items size_is (concat_pieces items) (omega (arith, c.if-buf-body_size.false, c.body_size.ensures)) in
     room (step begun (c.put_start-at.ensures.next, c.put_start-at.ensures.bytes))
 
 pub write_uint-requires : goal.write_uint-requires
 write_uint-requires c =
     let items : List Item = find_node_items c.args.target.now c.args.expiration [] in
     let size_is : 66 + c.uint_size-size.result ≡ length (encodes items) = omega (arith, total_size items, string_long c.args.target.now (omega arith) (omega arith), c.uint_size-size.ensures) in
-    let begun : Begun 3 (66 + c.uint_size-size.result) (pieces items) c.args.buf.now = begin 3 items size_is (concat_pieces items) (omega (arith, c.if-body_size-buf.true, c.body_size.ensures)) in
+    let begun : Begun 3 (66 + c.uint_size-size.result) (pieces items) c.args.buf.now = begin 3 items size_is (concat_pieces items) (omega (arith, c.if-buf-body_size.false, c.body_size.ensures)) in
     room (step (step begun (c.put_start-at.ensures.next, c.put_start-at.ensures.bytes)) (c.write_string-at.ensures.next, c.write_string-at.ensures.bytes))
 
-pub returns-then-body_size-buf : goal.returns-then-body_size-buf
-returns-then-body_size-buf c =
+pub returns : goal.returns
+returns c =
     let items : List Item = find_node_items c.args.target.now c.args.expiration [] in
     let size_is : 66 + c.uint_size-size.result ≡ length (encodes items) = omega (arith, total_size items, string_long c.args.target.now (omega arith) (omega arith), c.uint_size-size.ensures) in
-    let begun : Begun 3 (66 + c.uint_size-size.result) (pieces items) c.args.buf.now = begin 3 items size_is (concat_pieces items) (omega (arith, c.if-body_size-buf.true, c.body_size.ensures)) in
+    let begun : Begun 3 (66 + c.uint_size-size.result) (pieces items) c.args.buf.now = begin 3 items size_is (concat_pieces items) (omega (arith, c.if-buf-body_size.false, c.body_size.ensures)) in
     record {
-      answer = (end 3 items size_is (concat_pieces items) (eq-eqb _ 64 c.if-target-eq64.true)
+      answer = (end 3 items size_is (concat_pieces items) (eq-eqb _ 64 c.if-target-ne64.false)
           (step (step (step begun (c.put_start-at.ensures.next, c.put_start-at.ensures.bytes)) (c.write_string-at.ensures.next, c.write_string-at.ensures.bytes)) (c.write_uint.ensures.next, c.write_uint.ensures.bytes))).0;
-      bytes = (end 3 items size_is (concat_pieces items) (eq-eqb _ 64 c.if-target-eq64.true)
+      bytes = (end 3 items size_is (concat_pieces items) (eq-eqb _ 64 c.if-target-ne64.false)
           (step (step (step begun (c.put_start-at.ensures.next, c.put_start-at.ensures.bytes)) (c.write_string-at.ensures.next, c.write_string-at.ensures.bytes)) (c.write_uint.ensures.next, c.write_uint.ensures.bytes))).1;
     }
 
-pub returns-then-target-eq64 : goal.returns-then-target-eq64
-returns-then-target-eq64 c =
+pub returns-then-buf-body_size : goal.returns-then-buf-body_size
+returns-then-buf-body_size c =
     let items : List Item = find_node_items c.args.target.now c.args.expiration [] in
     let size_is : 66 + c.uint_size-size.result ≡ length (encodes items) = omega (arith, total_size items, string_long c.args.target.now (omega arith) (omega arith), c.uint_size-size.ensures) in
-    record { answer = (too_short 3 items size_is (eq-eqb _ 64 c.if-target-eq64.true) (omega (arith, c.if-body_size-buf.false, c.body_size.ensures))).0; bytes = (too_short 3 items size_is (eq-eqb _ 64 c.if-target-eq64.true) (omega (arith, c.if-body_size-buf.false, c.body_size.ensures))).1 }
+    record { answer = (too_short 3 items size_is (eq-eqb _ 64 c.if-target-ne64.false) (omega (arith, c.if-buf-body_size.true, c.body_size.ensures))).0; bytes = (too_short 3 items size_is (eq-eqb _ 64 c.if-target-ne64.false) (omega (arith, c.if-buf-body_size.true, c.body_size.ensures))).1 }
 
-pub returns : goal.returns
-returns c = let a = c.args in record { answer = (refused (can_find_node a.target.now) (find_node_body a.target.now a.expiration) a.buf.now (ne_eqb _ 64 c.if-target-eq64.false)).0; bytes = (refused (can_find_node a.target.now) (find_node_body a.target.now a.expiration) a.buf.now (ne_eqb _ 64 c.if-target-eq64.false)).1 }
+pub returns-then-target-ne64 : goal.returns-then-target-ne64
+returns-then-target-ne64 c = let a = c.args in record { answer = (refused (can_find_node a.target.now) (find_node_body a.target.now a.expiration) a.buf.now (ne_eqb _ 64 c.if-target-ne64.true)).0; bytes = (refused (can_find_node a.target.now) (find_node_body a.target.now a.expiration) a.buf.now (ne_eqb _ 64 c.if-target-ne64.true)).1 }

@@ -23,13 +23,13 @@ use Rattle.packet_write_ping.proofs.write_ping.Goals as goal
 
 pub endpoint_size-a-requires : goal.endpoint_size-a-requires
 endpoint_size-a-requires c =
-    let ok : can_ping c.args.from.now c.args.to.now ≡ true = sym c.can_ping.ensures ∙ c.if-can_ping.true in
+    let ok : can_ping c.args.from.now c.args.to.now ≡ true = sym c.can_ping.ensures ∙ c.if-not-can_ping.false in
     let from_ok : is_sender_address c.args.from.now ≡ true = and_left (is_sender_address c.args.from.now) (is_address c.args.to.now) ok in
     from_ok
 
 pub endpoint_size-b-requires : goal.endpoint_size-b-requires
 endpoint_size-b-requires c =
-    let ok : can_ping c.args.from.now c.args.to.now ≡ true = sym c.can_ping.ensures ∙ c.if-can_ping.true in
+    let ok : can_ping c.args.from.now c.args.to.now ≡ true = sym c.can_ping.ensures ∙ c.if-not-can_ping.false in
     let to_ok : is_sender_address c.args.to.now ≡ true = address_sender c.args.to.now (and_right (is_sender_address c.args.from.now) (is_address c.args.to.now) ok) in
     to_ok
 
@@ -43,12 +43,12 @@ write_uint-at-requires c =
     let parts_are : concat parts ≡ encodes items = ap (λ (x : Bytes). encode (uint 4) ++ (encode from ++ (encode to ++ x))) (append-nil (encodes last)) in
     let size : ℕ = 1 + c.endpoint_size-a.result + c.endpoint_size-b.result + c.last_size.result in
     let size_is : size ≡ length (encodes items) = omega (arith, total_size items, uint_size_small 4 (omega arith), c.endpoint_size-a.ensures.0, c.endpoint_size-b.ensures.0, total_size last, c.last_size.ensures.0) in
-    let begun : Begun 1 size parts c.args.buf.now = begin 1 items size_is parts_are (omega (arith, c.if-body_size-buf.true, c.body_size.ensures)) in
+    let begun : Begun 1 size parts c.args.buf.now = begin 1 items size_is parts_are (omega (arith, c.if-buf-body_size.false, c.body_size.ensures)) in
     room (step begun (c.put_start-at.ensures.next, c.put_start-at.ensures.bytes))
 
 pub put_endpoint-at-requires : goal.put_endpoint-at-requires
 put_endpoint-at-requires c =
-    let ok : can_ping c.args.from.now c.args.to.now ≡ true = sym c.can_ping.ensures ∙ c.if-can_ping.true in
+    let ok : can_ping c.args.from.now c.args.to.now ≡ true = sym c.can_ping.ensures ∙ c.if-not-can_ping.false in
     let from_ok : is_sender_address c.args.from.now ≡ true = and_left (is_sender_address c.args.from.now) (is_address c.args.to.now) ok in
     let from : Item = endpoint c.args.from.now c.args.from_udp c.args.from_tcp in
     let to : Item = endpoint c.args.to.now c.args.to_udp 0 in
@@ -58,12 +58,12 @@ put_endpoint-at-requires c =
     let parts_are : concat parts ≡ encodes items = ap (λ (x : Bytes). encode (uint 4) ++ (encode from ++ (encode to ++ x))) (append-nil (encodes last)) in
     let size : ℕ = 1 + c.endpoint_size-a.result + c.endpoint_size-b.result + c.last_size.result in
     let size_is : size ≡ length (encodes items) = omega (arith, total_size items, uint_size_small 4 (omega arith), c.endpoint_size-a.ensures.0, c.endpoint_size-b.ensures.0, total_size last, c.last_size.ensures.0) in
-    let begun : Begun 1 size parts c.args.buf.now = begin 1 items size_is parts_are (omega (arith, c.if-body_size-buf.true, c.body_size.ensures)) in
+    let begun : Begun 1 size parts c.args.buf.now = begin 1 items size_is parts_are (omega (arith, c.if-buf-body_size.false, c.body_size.ensures)) in
     (from_ok, room (step (step begun (c.put_start-at.ensures.next, c.put_start-at.ensures.bytes)) (c.write_uint-at.ensures.next, c.write_uint-at.ensures.bytes)))
 
-pub put_endpoint-at-requires-then-body_size-buf : goal.put_endpoint-at-requires-then-body_size-buf
-put_endpoint-at-requires-then-body_size-buf c =
-    let ok : can_ping c.args.from.now c.args.to.now ≡ true = sym c.can_ping.ensures ∙ c.if-can_ping.true in
+pub put_endpoint-at-requires-2 : goal.put_endpoint-at-requires-2
+put_endpoint-at-requires-2 c =
+    let ok : can_ping c.args.from.now c.args.to.now ≡ true = sym c.can_ping.ensures ∙ c.if-not-can_ping.false in
     let to_ok : is_sender_address c.args.to.now ≡ true = address_sender c.args.to.now (and_right (is_sender_address c.args.from.now) (is_address c.args.to.now) ok) in
     let from : Item = endpoint c.args.from.now c.args.from_udp c.args.from_tcp in
     let to : Item = endpoint c.args.to.now c.args.to_udp 0 in
@@ -73,7 +73,7 @@ put_endpoint-at-requires-then-body_size-buf c =
     let parts_are : concat parts ≡ encodes items = ap (λ (x : Bytes). encode (uint 4) ++ (encode from ++ (encode to ++ x))) (append-nil (encodes last)) in
     let size : ℕ = 1 + c.endpoint_size-a.result + c.endpoint_size-b.result + c.last_size.result in
     let size_is : size ≡ length (encodes items) = omega (arith, total_size items, uint_size_small 4 (omega arith), c.endpoint_size-a.ensures.0, c.endpoint_size-b.ensures.0, total_size last, c.last_size.ensures.0) in
-    let begun : Begun 1 size parts c.args.buf.now = begin 1 items size_is parts_are (omega (arith, c.if-body_size-buf.true, c.body_size.ensures)) in
+    let begun : Begun 1 size parts c.args.buf.now = begin 1 items size_is parts_are (omega (arith, c.if-buf-body_size.false, c.body_size.ensures)) in
     (to_ok, room (step (step (step begun (c.put_start-at.ensures.next, c.put_start-at.ensures.bytes)) (c.write_uint-at.ensures.next, c.write_uint-at.ensures.bytes)) (c.put_endpoint-at.ensures.next, c.put_endpoint-at.ensures.bytes)))
 
 pub put_last-requires : goal.put_last-requires
@@ -86,38 +86,38 @@ put_last-requires c =
     let parts_are : concat parts ≡ encodes items = ap (λ (x : Bytes). encode (uint 4) ++ (encode from ++ (encode to ++ x))) (append-nil (encodes last)) in
     let size : ℕ = 1 + c.endpoint_size-a.result + c.endpoint_size-b.result + c.last_size.result in
     let size_is : size ≡ length (encodes items) = omega (arith, total_size items, uint_size_small 4 (omega arith), c.endpoint_size-a.ensures.0, c.endpoint_size-b.ensures.0, total_size last, c.last_size.ensures.0) in
-    let begun : Begun 1 size parts c.args.buf.now = begin 1 items size_is parts_are (omega (arith, c.if-body_size-buf.true, c.body_size.ensures)) in
-    room (step (step (step (step begun (c.put_start-at.ensures.next, c.put_start-at.ensures.bytes)) (c.write_uint-at.ensures.next, c.write_uint-at.ensures.bytes)) (c.put_endpoint-at.ensures.next, c.put_endpoint-at.ensures.bytes)) (c.put_endpoint-at-then-body_size-buf.ensures.next, c.put_endpoint-at-then-body_size-buf.ensures.bytes))
+    let begun : Begun 1 size parts c.args.buf.now = begin 1 items size_is parts_are (omega (arith, c.if-buf-body_size.false, c.body_size.ensures)) in
+    room (step (step (step (step begun (c.put_start-at.ensures.next, c.put_start-at.ensures.bytes)) (c.write_uint-at.ensures.next, c.write_uint-at.ensures.bytes)) (c.put_endpoint-at.ensures.next, c.put_endpoint-at.ensures.bytes)) (c.put_endpoint-at-2.ensures.next, c.put_endpoint-at-2.ensures.bytes))
 
-pub returns-then-body_size-buf : goal.returns-then-body_size-buf
-returns-then-body_size-buf c =
+pub returns : goal.returns
+returns c =
     let from : Item = endpoint c.args.from.now c.args.from_udp c.args.from_tcp in
     let to : Item = endpoint c.args.to.now c.args.to_udp 0 in
     let items : List Item = ping_items 4 from to c.args.expiration (enr_seq_items c.args.enr_seq) in
     let last : List Item = last_items c.args.expiration c.args.enr_seq in
     let parts : List Bytes = encode (uint 4) ∷ encode from ∷ encode to ∷ encodes last ∷ [] in
     let parts_are : concat parts ≡ encodes items = ap (λ (x : Bytes). encode (uint 4) ++ (encode from ++ (encode to ++ x))) (append-nil (encodes last)) in
-    let ok : can_ping c.args.from.now c.args.to.now ≡ true = sym c.can_ping.ensures ∙ c.if-can_ping.true in
+    let ok : can_ping c.args.from.now c.args.to.now ≡ true = sym c.can_ping.ensures ∙ c.if-not-can_ping.false in
     let size : ℕ = 1 + c.endpoint_size-a.result + c.endpoint_size-b.result + c.last_size.result in
     let size_is : size ≡ length (encodes items) = omega (arith, total_size items, uint_size_small 4 (omega arith), c.endpoint_size-a.ensures.0, c.endpoint_size-b.ensures.0, total_size last, c.last_size.ensures.0) in
-    let begun : Begun 1 size parts c.args.buf.now = begin 1 items size_is parts_are (omega (arith, c.if-body_size-buf.true, c.body_size.ensures)) in
+    let begun : Begun 1 size parts c.args.buf.now = begin 1 items size_is parts_are (omega (arith, c.if-buf-body_size.false, c.body_size.ensures)) in
     record {
       answer = (end 1 items size_is parts_are ok
-          (step (step (step (step (step begun (c.put_start-at.ensures.next, c.put_start-at.ensures.bytes)) (c.write_uint-at.ensures.next, c.write_uint-at.ensures.bytes)) (c.put_endpoint-at.ensures.next, c.put_endpoint-at.ensures.bytes)) (c.put_endpoint-at-then-body_size-buf.ensures.next, c.put_endpoint-at-then-body_size-buf.ensures.bytes)) (c.put_last.ensures.next, c.put_last.ensures.bytes))).0;
+          (step (step (step (step (step begun (c.put_start-at.ensures.next, c.put_start-at.ensures.bytes)) (c.write_uint-at.ensures.next, c.write_uint-at.ensures.bytes)) (c.put_endpoint-at.ensures.next, c.put_endpoint-at.ensures.bytes)) (c.put_endpoint-at-2.ensures.next, c.put_endpoint-at-2.ensures.bytes)) (c.put_last.ensures.next, c.put_last.ensures.bytes))).0;
       bytes = (end 1 items size_is parts_are ok
-          (step (step (step (step (step begun (c.put_start-at.ensures.next, c.put_start-at.ensures.bytes)) (c.write_uint-at.ensures.next, c.write_uint-at.ensures.bytes)) (c.put_endpoint-at.ensures.next, c.put_endpoint-at.ensures.bytes)) (c.put_endpoint-at-then-body_size-buf.ensures.next, c.put_endpoint-at-then-body_size-buf.ensures.bytes)) (c.put_last.ensures.next, c.put_last.ensures.bytes))).1;
+          (step (step (step (step (step begun (c.put_start-at.ensures.next, c.put_start-at.ensures.bytes)) (c.write_uint-at.ensures.next, c.write_uint-at.ensures.bytes)) (c.put_endpoint-at.ensures.next, c.put_endpoint-at.ensures.bytes)) (c.put_endpoint-at-2.ensures.next, c.put_endpoint-at-2.ensures.bytes)) (c.put_last.ensures.next, c.put_last.ensures.bytes))).1;
     }
 
-pub returns-then-can_ping : goal.returns-then-can_ping
-returns-then-can_ping c =
+pub returns-then-buf-body_size : goal.returns-then-buf-body_size
+returns-then-buf-body_size c =
     let from : Item = endpoint c.args.from.now c.args.from_udp c.args.from_tcp in
     let to : Item = endpoint c.args.to.now c.args.to_udp 0 in
     let items : List Item = ping_items 4 from to c.args.expiration (enr_seq_items c.args.enr_seq) in
-    let ok : can_ping c.args.from.now c.args.to.now ≡ true = sym c.can_ping.ensures ∙ c.if-can_ping.true in
+    let ok : can_ping c.args.from.now c.args.to.now ≡ true = sym c.can_ping.ensures ∙ c.if-not-can_ping.false in
     let last : List Item = last_items c.args.expiration c.args.enr_seq in
     let size : ℕ = 1 + c.endpoint_size-a.result + c.endpoint_size-b.result + c.last_size.result in
     let size_is : size ≡ length (encodes items) = omega (arith, total_size items, uint_size_small 4 (omega arith), c.endpoint_size-a.ensures.0, c.endpoint_size-b.ensures.0, total_size last, c.last_size.ensures.0) in
-    record { answer = (too_short 1 items size_is ok (omega (arith, c.if-body_size-buf.false, c.body_size.ensures))).0; bytes = (too_short 1 items size_is ok (omega (arith, c.if-body_size-buf.false, c.body_size.ensures))).1 }
+    record { answer = (too_short 1 items size_is ok (omega (arith, c.if-buf-body_size.true, c.body_size.ensures))).0; bytes = (too_short 1 items size_is ok (omega (arith, c.if-buf-body_size.true, c.body_size.ensures))).1 }
 
-pub returns : goal.returns
-returns c = let a = c.args in record { answer = (refused (can_ping a.from.now a.to.now) (ping_body a.from.now a.from_udp a.from_tcp a.to.now a.to_udp a.expiration a.enr_seq) a.buf.now (sym c.can_ping.ensures ∙ c.if-can_ping.false)).0; bytes = (refused (can_ping a.from.now a.to.now) (ping_body a.from.now a.from_udp a.from_tcp a.to.now a.to_udp a.expiration a.enr_seq) a.buf.now (sym c.can_ping.ensures ∙ c.if-can_ping.false)).1 }
+pub returns-then-not-can_ping : goal.returns-then-not-can_ping
+returns-then-not-can_ping c = let a = c.args in record { answer = (refused (can_ping a.from.now a.to.now) (ping_body a.from.now a.from_udp a.from_tcp a.to.now a.to_udp a.expiration a.enr_seq) a.buf.now (sym c.can_ping.ensures ∙ c.if-not-can_ping.true)).0; bytes = (refused (can_ping a.from.now a.to.now) (ping_body a.from.now a.from_udp a.from_tcp a.to.now a.to_udp a.expiration a.enr_seq) a.buf.now (sym c.can_ping.ensures ∙ c.if-not-can_ping.true)).1 }

@@ -31,12 +31,6 @@ bounds-table-start c =
     let start_fits : offset_of (c.loop-slot.slot + 1) ≤ length c.args.table.now = slot-in c.args.table.now c.requires c.loop-slot.slot kept in
     omega (arith, start_fits)
 
-pub overflow_cast-entries : goal.overflow_cast-entries
-overflow_cast-entries c =
-    let kept : c.loop-slot.slot < count_of c.args.table.now = omega (arith, c.loop-slot-test.true, c.bucket_count-count.ensures) in
-    let bounds : let s = c.args.table.now in let at = offset_of c.loop-slot.slot in (get_or s at 0 ≤ 16) × (get_or s (at + 1) 0 ≤ 4) = counts c.args.table.now c.requires c.loop-slot.slot kept in
-    omega (arith, bounds.0)
-
 pub overflow_add-entries : goal.overflow_add-entries
 overflow_add-entries c =
     let kept : c.loop-slot.slot < count_of c.args.table.now = omega (arith, c.loop-slot-test.true, c.bucket_count-count.ensures) in
@@ -54,22 +48,11 @@ bounds-table-start-in-loop-slot c =
     let start_fits : offset_of (c.loop-slot.slot + 1) ≤ length c.args.table.now = slot-in c.args.table.now c.requires c.loop-slot.slot kept in
     omega (arith, start_fits)
 
-pub overflow_cast-replacements : goal.overflow_cast-replacements
-overflow_cast-replacements c =
-    let kept : c.loop-slot.slot < count_of c.args.table.now = omega (arith, c.loop-slot-test.true, c.bucket_count-count.ensures) in
-    let bounds : let s = c.args.table.now in let at = offset_of c.loop-slot.slot in (get_or s at 0 ≤ 16) × (get_or s (at + 1) 0 ≤ 4) = counts c.args.table.now c.requires c.loop-slot.slot kept in
-    omega (arith, bounds.1)
-
 pub overflow_add-replacements-in-loop-slot : goal.overflow_add-replacements-in-loop-slot
 overflow_add-replacements-in-loop-slot c =
     let kept : c.loop-slot.slot < count_of c.args.table.now = omega (arith, c.loop-slot-test.true, c.bucket_count-count.ensures) in
     let bounds : let s = c.args.table.now in let at = offset_of c.loop-slot.slot in (get_or s at 0 ≤ 16) × (get_or s (at + 1) 0 ≤ 4) = counts c.args.table.now c.requires c.loop-slot.slot kept in
     omega (arith, bounds.1, kept, at-most c.args.table.now c.requires, c.loop-slot.invariant.2.0)
-
-pub overflow_add-slot : goal.overflow_add-slot
-overflow_add-slot c =
-    let kept : c.loop-slot.slot < count_of c.args.table.now = omega (arith, c.loop-slot-test.true, c.bucket_count-count.ensures) in
-    omega (arith, kept, at-most c.args.table.now c.requires)
 
 pub loop-slot-preserved : goal.loop-slot-preserved
 loop-slot-preserved c =

@@ -1,4 +1,4 @@
-use Prim.Native.Nat.{◌+◌, ◌-◌, ◌*◌, ◌≤◌}
+use Prim.Native.Nat.{◌+◌, ◌*◌, ◌≤◌}
 use mathlib.Core.Path.{◌≡◌}
 use Rattle.table_model.specs.Layout.{count_of, buckets_of}
 use Rattle.printout.specs.TableRow.{entry_total, replacement_total}
@@ -9,6 +9,3 @@ abbrev pub invariant-loop-slot : goal.invariant-loop-slot
 invariant-loop-slot l = (l.slot ≤ count_of l.table)
     × ((l.entries ≤ l.slot * 16) × (l.entries + entries_from l.table l.slot ≡ entry_total (buckets_of l.table)))
     × ((l.replacements ≤ l.slot * 4) × (l.replacements + replacements_from l.table l.slot ≡ replacement_total (buckets_of l.table)))
-
-abbrev pub decreases-loop-slot : goal.decreases-loop-slot
-decreases-loop-slot l = l.count - l.slot

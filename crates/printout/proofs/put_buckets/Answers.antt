@@ -25,11 +25,6 @@ loop-slot-init c = let a = c.args in
       renamed (ap (λ (r : Bytes). r ∷ []) (sym (all-buckets s))) (start-one a.out.now a.at (buckets_rows (first_distance s) (buckets_of s)) c.requires.1),
     )
 
-pub overflow_add-first : goal.overflow_add-first
-overflow_add-first c =
-    let kept : c.loop-slot.slot < count_of c.args.table.now = omega (arith, c.loop-slot-test.true, c.bucket_count-count.ensures) in
-    omega (arith, c.bucket_count-count.ensures, kept, at-most c.args.table.now c.requires.0)
-
 pub put_bucket-next-requires : goal.put_bucket-next-requires
 put_bucket-next-requires c =
     let kept : c.loop-slot.slot < count_of c.args.table.now = omega (arith, c.loop-slot-test.true, c.bucket_count-count.ensures) in
@@ -38,11 +33,6 @@ put_bucket-next-requires c =
       bucket-in s c.requires.0 l.slot kept (λ k. (c.shared_slice_known-1.given k).fits),
       room (due-rows s l.slot kept (omega (arith, c.bucket_count-count.ensures)) l.invariant.2),
     )
-
-pub overflow_add-slot : goal.overflow_add-slot
-overflow_add-slot c =
-    let kept : c.loop-slot.slot < count_of c.args.table.now = omega (arith, c.loop-slot-test.true, c.bucket_count-count.ensures) in
-    omega (arith, kept, at-most c.args.table.now c.requires.0)
 
 pub loop-slot-preserved : goal.loop-slot-preserved
 loop-slot-preserved c =

@@ -1,4 +1,4 @@
-use Prim.Native.Nat.{◌-◌, ◌≤◌}
+use Prim.Native.Nat.{◌≤◌}
 use mathlib.Core.Path.{◌≡◌}
 use mathlib.Core.List.{[], ◌∷◌}
 use lib.ListN.{length}
@@ -12,6 +12,3 @@ abbrev pub invariant-loop-slot : goal.invariant-loop-slot
 invariant-loop-slot l = (l.slot ≤ count_of l.table)
     × (length l.out ≡ length l.initial.out)
     × Progress l.initial.out l.at (buckets_rows (first_distance l.table) (buckets_of l.table) ∷ []) (rows_from l.table l.slot ∷ []) l.out l.next
-
-abbrev pub decreases-loop-slot : goal.decreases-loop-slot
-decreases-loop-slot l = l.count - l.slot

@@ -23,18 +23,6 @@ loop-i-init c = let s = c in
       renamed (ap (λ (r : Bytes). r ∷ []) (sym (all-rows a.word.now a.distance a.table.now a.from a.n))) (start-one a.out.now a.at all s.requires.1),
     )
 
-pub overflow_mul-i : goal.overflow_mul-i
-overflow_mul-i c = omega (arith, c.requires.0.few)
-
-pub overflow_add-from : goal.overflow_add-from
-overflow_add-from c = omega (arith, c.requires.0.few, c.requires.0.within)
-
-pub load_entry-e-requires : goal.load_entry-e-requires
-load_entry-e-requires c = omega (arith, c.requires.0.within)
-
-pub overflow_add-i : goal.overflow_add-i
-overflow_add-i c = omega (arith, c.requires.0.few)
-
 pub put_entry-next-requires : goal.put_entry-next-requires
 put_entry-next-requires c = let a = c.args in
     let l = c.loop-i in
@@ -43,9 +31,6 @@ put_entry-next-requires c = let a = c.args in
       holds-here a.word.now a.distance a.table.now a.from a.n l.i t HasAddress l.invariant.2 is,
       room (due-row a.word.now a.distance a.table.now a.from a.n l.i t is l.invariant.3),
     )
-
-pub overflow_add-i-in-loop-i : goal.overflow_add-i-in-loop-i
-overflow_add-i-in-loop-i c = omega (arith, c.requires.0.few)
 
 pub loop-i-preserved : goal.loop-i-preserved
 loop-i-preserved c = let a = c.args in

@@ -1,4 +1,4 @@
-use Prim.Native.Nat.{◌-◌, ◌≤◌}
+use Prim.Native.Nat.{◌≤◌}
 use mathlib.Core.Path.{◌≡◌}
 use mathlib.Core.List.{[], ◌∷◌}
 use lib.ListN.{length}
@@ -16,6 +16,3 @@ invariant-loop-i l = (l.i ≤ l.n)
     × (length l.out ≡ length l.initial.out)
     × All HasAddress (behind l.table l.from l.n l.i)
     × Progress l.initial.out l.at (entry_rows l.word l.distance 1 (entries_at l.table l.from l.n) ∷ []) (rows_behind l.word l.distance l.table l.from l.n l.i ∷ []) l.out l.next
-
-abbrev pub decreases-loop-i : goal.decreases-loop-i
-decreases-loop-i l = l.n - l.i

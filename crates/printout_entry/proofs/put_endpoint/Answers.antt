@@ -13,12 +13,6 @@ use Rattle.octets.proofs.Progress.{Progress, start, room, step, finish}
 use borrow.Author.Rules.{rules}
 use Rattle.printout_entry.proofs.put_endpoint.Goals as goal
 
-pub slice_bounds-address-end : goal.slice_bounds-address-end
-slice_bounds-address-end c =
-    let array : length c.args.endpoint.address ≡ 16 = search rules in
-    let within : c.args.endpoint.len ≤ length c.args.endpoint.address = omega (arith, array, c.requires.0) in
-    within
-
 pub slice_bounds-hex_field-end : goal.slice_bounds-hex_field-end
 slice_bounds-hex_field-end c =
     let array : length c.args.endpoint.address ≡ 16 = search rules in

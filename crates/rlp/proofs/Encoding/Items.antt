@@ -1,7 +1,8 @@
 -- A payload is whole exactly if it is the encodings of items, and then it has that many, each where its offset says. Assumes nothing.
 use Prim.Native.Nat.{ℕ, zero, suc, ◌+◌, ◌^◌, ◌≤◌, ◌<◌}
+use Rattle.std.specs.Prelude.{Option, Some, None}
 use mathlib.Core.Path.{◌≡◌, refl, sym, ap, subst, ◌∙◌}
-use mathlib.Core.Bool.{true, false, false≢true}
+use mathlib.Core.Bool.{true, false≢true}
 use mathlib.Core.List.{List, [], ◌∷◌, ◌++◌}
 use native.Mathlib.Omega.{arith}
 use lib.ListN.{length, get_or, drop, length-append, length-drop, drop_of_length-le}
@@ -10,9 +11,8 @@ use Rattle.octets.specs.Octets.{Bytes, Slice, part}
 use Rattle.octets.proofs.Laws.{slice_drop}
 use Rattle.rlp.specs.Encoding.{encode, encodes, item_of, is_list, payload_of, prefix, Small}
 use Rattle.rlp.specs.Encoding as rlp
-use Rattle.rlp.specs.Reading.{head, extent, whole, count, offset}
-use Rattle.rlp.specs.declared.Header.{Header}
-use Rattle.rlp.specs.declared.Header.TheVariants.{Item, Broken}
+use Rattle.rlp.specs.Reading.{item, head, extent, whole, count, offset}
+use Rattle.rlp.specs.declared.Item.{Item}
 use Rattle.rlp.specs.Claims.{WholeEncodes, WholeIsEncodes}
 use Rattle.rlp.proofs.Reading.{item-bounds, whole_next, whole_broken, whole-nil, count_next, count-nil, offset_broken}
 use Rattle.rlp.proofs.Encoding.Reads.{read_item, read_payload, read_rest, encode-length}
@@ -27,7 +27,7 @@ module _ (i : rlp.Item) (is : List rlp.Item) (small : Small (i ∷ is)) where
   pub small-rest : Small is
   small-rest = omega (arith, length-append (encode i) (encodes is))
 
-  pub read_first : head (encodes (i ∷ is)) ≡ Item (is_list i) (length (prefix i)) (length (payload_of i))
+  pub read_first : head (encodes (i ∷ is)) ≡ item (is_list i) (length (prefix i)) (length (payload_of i))
   read_first = read_item i (encodes is) small-first
 
   first-extent : extent (head (encodes (i ∷ is))) ≡ length (prefix i) + length (payload_of i)
@@ -65,7 +65,7 @@ offset-encodes (suc n) (i ∷ is) h =
 
 -- an item stands at the front of s: its header is read, its payload is the part that the header says
 pub record ReadsAs (s : Bytes) (i : rlp.Item) : Type 0 where
-  pub header : head s ≡ Item (is_list i) (length (prefix i)) (length (payload_of i))
+  pub header : head s ≡ item (is_list i) (length (prefix i)) (length (payload_of i))
   pub payload : part s (length (prefix i)) (length (payload_of i)) ≡ payload_of i
 
 -- item n of a payload is read at its offset
@@ -96,13 +96,14 @@ split_one : (s : Bytes) → Slice s → whole s ≡ true → ((k : ℕ) → 0 < 
 split_one [] sl w more = ([], refl)
 split_one (b ∷ t) sl w more = go (head (b ∷ t)) refl
   where
-    go : (h : Header) → head (b ∷ t) ≡ h → Encoded (b ∷ t)
-    go (Item x skip size) e =
-        let n : extent (head (b ∷ t)) ≡ skip + size = ap extent e in
-        let p : 0 < skip + size = (item-bounds (b ∷ t) e).0 in
-        let r = more (skip + size) p (ap (λ (k : ℕ). whole (drop k (b ∷ t))) (sym n) ∙ sym (whole_next (b ∷ t) (omega arith)) ∙ w) in
-        (item_of x (part (b ∷ t) skip size) ∷ r.0, ap (λ (y : Bytes). encode (item_of x (part (b ∷ t) skip size)) ++ y) r.1 ∙ read_sound (b ∷ t) sl e)
-    go Broken e = absurd (false≢true (sym (whole_broken (b ∷ t) (omega arith) e) ∙ w))
+    go : (h : Option Item) → head (b ∷ t) ≡ h → Encoded (b ∷ t)
+    go (Some i) e =
+        let n : extent (head (b ∷ t)) ≡ i.skip + i.size = ap extent e in
+        let p : 0 < i.skip + i.size = (item-bounds (b ∷ t) e).0 in
+        let r = more (i.skip + i.size) p (ap (λ (k : ℕ). whole (drop k (b ∷ t))) (sym n) ∙ sym (whole_next (b ∷ t) (omega arith)) ∙ w) in
+        let x : rlp.Item = item_of i.list (part (b ∷ t) i.skip i.size) in
+        (x ∷ r.0, ap (λ (y : Bytes). encode x ++ y) r.1 ∙ read_sound (b ∷ t) sl e)
+    go None e = absurd (false≢true (sym (whole_broken (b ∷ t) (omega arith) e) ∙ w))
 
 split_up : (fuel : ℕ) (s : Bytes) → length s ≤ fuel → Slice s → whole s ≡ true → Encoded s
 split_up zero s l sl w = ([], sym (drop_of_length-le s l))

@@ -1,5 +1,6 @@
 -- What is written reads back: the encoding of an item, whatever follows it, reads as that item. Assumes nothing.
 use Prim.Native.Nat.{ℕ, suc, ◌+◌, ◌-◌, ◌^◌, ◌≤◌, ◌<◌}
+use Rattle.std.specs.Prelude.{Option}
 use mathlib.Core.Path.{◌≡◌, refl, sym, ap, subst, ◌∙◌}
 use mathlib.Core.Logic.{◌≢◌}
 use mathlib.Core.Bool.{Bool, true, false, cond, false≢true}
@@ -14,9 +15,8 @@ use Rattle.octets.specs.Octets.{Bytes, part, number}
 use Rattle.rlp.specs.Numbers.{uint_bytes}
 use Rattle.rlp.specs.Encoding.{header, is_plain, encode, string, list, payload_of, prefix}
 use Rattle.rlp.specs.Encoding as rlp
-use Rattle.rlp.specs.Reading.{long, sized, strict, head}
-use Rattle.rlp.specs.declared.Header.{Header}
-use Rattle.rlp.specs.declared.Header.TheVariants.{Item}
+use Rattle.rlp.specs.Reading.{item, long, sized, strict, head}
+use Rattle.rlp.specs.declared.Item.{Item}
 use Rattle.rlp.specs.Claims.{ReadItem}
 use Rattle.rlp.proofs.Cases.{by_cases, by_eqb}
 use Rattle.rlp.proofs.Numbers.{uint_bound, uint-number, uint_lead}
@@ -38,7 +38,7 @@ module _ (b : ℕ) (t : Bytes) where
   not_empty : eqb (length (b ∷ t)) 0 ≡ false
   not_empty = ne_eqb _ 0 (λ (z : suc (length t) ≡ 0). omega arith)
 
-  pub head-low : b < 0x80 → head (b ∷ t) ≡ Item false 0 1
+  pub head-low : b < 0x80 → head (b ∷ t) ≡ item false 0 1
   unfolding head
   head-low h = simp (not_empty, lt-ltb b 0x80 h)
 
@@ -54,7 +54,7 @@ module _ (b : ℕ) (t : Bytes) where
 
 -- ---- a header of each length is read, whatever the kind
 
-sized_short : (x tag : ℕ) (t : Bytes) (l : Bool) → tag < 56 → tag ≤ length t → sized (x ∷ t) l tag ≡ Item l 1 tag
+sized_short : (x tag : ℕ) (t : Bytes) (l : Bool) → tag < 56 → tag ≤ length t → sized (x ∷ t) l tag ≡ item l 1 tag
 unfolding sized
 sized_short x tag t l h f =
     let g : tag ≤ suc (length t) - 1 = omega arith in
@@ -74,14 +74,14 @@ module _ (x n : ℕ) (t : Bytes) (l : Bool) (big : 56 ≤ n) (fits : n ≤ lengt
   first : get_or (u ++ t) 0 0 ≢ 0
   first z = let e = get_or-append u t 0 0 lead.0 in omega (arith, lead.1)
 
-  long-read : long (x ∷ (u ++ t)) l (length u) ≡ Item l (1 + length u) n
+  long-read : long (x ∷ (u ++ t)) l (length u) ≡ item l (1 + length u) n
   unfolding long
   long-read =
       let a : length u ≤ suc (length (u ++ t)) - 1 = omega (arith, length-append u t) in
       let b : n ≤ suc (length (u ++ t)) - (1 + length u) = omega (arith, length-append u t) in
       simp (le-leb (length u) (suc (length (u ++ t)) - 1) a, ne_eqb (get_or (u ++ t) 0 0) 0 first, spelt, le-ltb n 56 big, le-leb n (suc (length (u ++ t)) - (1 + length u)) b)
 
-  sized-long : sized (x ∷ (u ++ t)) l (55 + length u) ≡ Item l (1 + length u) n
+  sized-long : sized (x ∷ (u ++ t)) l (55 + length u) ≡ item l (1 + length u) n
   unfolding sized
   sized-long =
       let a : 56 ≤ 55 + length u = omega (arith, lead.0) in
@@ -95,7 +95,7 @@ pub record Framed (base : ℕ) (l : Bool) (p rest : Bytes) : Type 0 where
   pub splits : (header base (length p) ++ p) ++ rest ≡ first ∷ after
   pub low : base ≤ first
   pub high : first < base + 64
-  pub reads : sized (first ∷ after) l (first - base) ≡ Item l (length (header base (length p))) (length p)
+  pub reads : sized (first ∷ after) l (first - base) ≡ item l (length (header base (length p))) (length p)
   pub one : length p ≡ 1 → get_or (first ∷ after) 1 0 ≡ get_or p 0 0
 
 module _ (base : ℕ) (l : Bool) (p rest : Bytes) where
@@ -144,18 +144,18 @@ module _ (base : ℕ) (l : Bool) (p rest : Bytes) where
 
 -- ---- strings and lists
 
-strict_item : (s : Bytes) (l : Bool) (skip size : ℕ) → (size ≡ 1 → 0x80 ≤ get_or s 1 0) → strict s (Item l skip size) ≡ Item l skip size
+strict_item : (s : Bytes) (l : Bool) (skip size : ℕ) → (size ≡ 1 → 0x80 ≤ get_or s 1 0) → strict s (item l skip size) ≡ item l skip size
 unfolding strict
 strict_item s l skip size h =
-    by_eqb (λ (x : Header). x ≡ Item l skip size) size 1 (λ e. rw (le-ltb (get_or s 1 0) 0x80 (h e))) (λ _. refl)
+    by_eqb (λ (x : Option Item). x ≡ item l skip size) size 1 (λ e. rw (le-ltb (get_or s 1 0) 0x80 (h e))) (λ _. refl)
 
-read_list : (p rest : Bytes) → length p < 2 ^ 64 → head (encode (list p) ++ rest) ≡ Item true (length (header 0xc0 (length p))) (length p)
+read_list : (p rest : Bytes) → length p < 2 ^ 64 → head (encode (list p) ++ rest) ≡ item true (length (header 0xc0 (length p))) (length p)
 unfolding encode
 read_list p rest small =
     let f = framed 0xc0 true p rest small in
     ap head f.splits ∙ head-high f.first f.after f.low ∙ f.reads
 
-read_plain : (b : ℕ) (rest : Bytes) → b < 0x80 → head (encode (string (b ∷ [])) ++ rest) ≡ Item false 0 1
+read_plain : (b : ℕ) (rest : Bytes) → b < 0x80 → head (encode (string (b ∷ [])) ++ rest) ≡ item false 0 1
 read_plain b rest h = rw (encode-plain b h) (head-low b rest h)
 
 not_plain : (s : Bytes) → is_plain s ≡ false → length s ≡ 1 → 0x80 ≤ get_or s 0 0
@@ -168,7 +168,7 @@ plain_one [] e = absurd (false≢true e)
 plain_one (b ∷ []) e = (b, refl, ltb-true b 0x80 e)
 plain_one (b ∷ (a ∷ s)) e = absurd (false≢true e)
 
-read_string : (s rest : Bytes) → length s < 2 ^ 64 → is_plain s ≡ false → head (encode (string s) ++ rest) ≡ Item false (length (header 0x80 (length s))) (length s)
+read_string : (s rest : Bytes) → length s < 2 ^ 64 → is_plain s ≡ false → head (encode (string s) ++ rest) ≡ item false (length (header 0x80 (length s))) (length s)
 unfolding encode
 read_string s rest small e =
     let f = framed 0x80 false s rest small in
@@ -180,10 +180,10 @@ unfolding prefix
 read_item (list p) rest small = read_list p rest small
 read_item (string s) rest small = go (is_plain s) refl
   where
-    go : (x : Bool) → is_plain s ≡ x → head (encode (string s) ++ rest) ≡ Item false (length (cond (is_plain s) [] (header 0x80 (length s)))) (length s)
+    go : (x : Bool) → is_plain s ≡ x → head (encode (string s) ++ rest) ≡ item false (length (cond (is_plain s) [] (header 0x80 (length s)))) (length s)
     go true e =
         let o = plain_one s e in
-        rw e (ap (λ (x : Bytes). head (encode (string x) ++ rest)) o.1 ∙ read_plain o.0 rest o.2 ∙ ap (λ (x : Bytes). Item false 0 (length x)) (sym o.1))
+        rw e (ap (λ (x : Bytes). head (encode (string x) ++ rest)) o.1 ∙ read_plain o.0 rest o.2 ∙ ap (λ (x : Bytes). item false 0 (length x)) (sym o.1))
     go false e = rw e (read_string s rest small e)
 
 -- its payload, and what follows it

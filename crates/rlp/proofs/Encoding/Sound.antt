@@ -1,5 +1,6 @@
 -- What is read was written: a header that is read stands before that item's encoding. Assumes nothing.
 use Prim.Native.Nat.{ℕ, suc, ◌+◌, ◌-◌, ◌≤◌, ◌<◌}
+use Rattle.std.specs.Prelude.{Option, Some, None}
 use mathlib.Core.Path.{◌≡◌, refl, sym, ap, subst, ◌∙◌}
 use mathlib.Core.Logic.{◌≢◌}
 use mathlib.Core.Bool.{Bool, true, false}
@@ -14,9 +15,8 @@ use Rattle.octets.specs.Octets.{Bytes, IsBytes, Slice, part, number}
 use Rattle.octets.proofs.Laws.{bytes_take, length_part, get_d_part}
 use Rattle.rlp.specs.Numbers.{uint_bytes}
 use Rattle.rlp.specs.Encoding.{header, encode, item_of}
-use Rattle.rlp.specs.Reading.{within, long, sized, strict, head}
-use Rattle.rlp.specs.declared.Header.{Header}
-use Rattle.rlp.specs.declared.Header.TheVariants.{Item, Broken}
+use Rattle.rlp.specs.Reading.{item, within, long, sized, strict, head}
+use Rattle.rlp.specs.declared.Item.{Item}
 use Rattle.rlp.specs.Claims.{ReadIsEncoding}
 use Rattle.rlp.proofs.Cases.{by_leb, by_ltb, by_eqb}
 use Rattle.rlp.proofs.Numbers.{number-uint}
@@ -24,10 +24,10 @@ use Rattle.rlp.proofs.Writing.{header_short, header-long, plain_not}
 use Rattle.rlp.proofs.Encoding.Reads.{head-low, head-middle, head-high}
 
 -- the payload behind its header of the kind of base, and what follows, are s; a payload of one byte has a header of one
-abbrev Frame : ℕ → Bool → Bytes → Header → Type 0
-Frame base l₀ s (Item l skip size) =
-    ((header base size ++ part s skip size) ++ drop (skip + size) s ≡ s) × (size ≡ 1 → skip ≡ 1) × (skip + size ≤ length s) × (l ≡ l₀)
-Frame base l₀ s Broken = Unit {0}
+abbrev Frame : ℕ → Bool → Bytes → Option Item → Type 0
+Frame base l₀ s (Some i) =
+    ((header base i.size ++ part s i.skip i.size) ++ drop (i.skip + i.size) s ≡ s) × (i.size ≡ 1 → i.skip ≡ 1) × (i.skip + i.size ≤ length s) × (i.list ≡ l₀)
+Frame base l₀ s None = Unit {0}
 
 -- a header's bytes are those of the number that they spell
 spelt : (k : ℕ) (t : Bytes) → IsBytes t → 0 < k → k ≤ length t → get_or t 0 0 ≢ 0 → uint_bytes (number (take k t)) ≡ take k t
@@ -74,33 +74,33 @@ module _ (base b : ℕ) (t : Bytes) (l : Bool) (bs : IsBytes t) where
       (λ e. frame-long (b - base - 55) (omega arith) (omega arith))
 
 -- the item that is read, encoded, and what follows it, are s
-abbrev Sound : Bytes → Header → Type 0
-Sound s (Item l skip size) = encode (item_of l (part s skip size)) ++ drop (skip + size) s ≡ s
-Sound s Broken = Unit {0}
+abbrev Sound : Bytes → Option Item → Type 0
+Sound s (Some i) = encode (item_of i.list (part s i.skip i.size)) ++ drop (i.skip + i.size) s ≡ s
+Sound s None = Unit {0}
 
-sound_list : (s : Bytes) (h : Header) → Frame 0xc0 true s h → Sound s h
+sound_list : (s : Bytes) (h : Option Item) → Frame 0xc0 true s h → Sound s h
 unfolding encode
-sound_list s (Item l skip size) f = rw (f.3, length_part s skip size f.2) f.0
-sound_list s Broken f = tt
+sound_list s (Some i) f = rw (f.3, length_part s i.skip i.size f.2) f.0
+sound_list s None f = tt
 
-sound_string : (s : Bytes) (h : Header) → Frame 0x80 false s h → Sound s (strict s h)
+sound_string : (s : Bytes) (h : Option Item) → Frame 0x80 false s h → Sound s (strict s h)
 unfolding encode strict
-sound_string s (Item l skip size) f =
-    by_eqb (Sound s) size 1
+sound_string s (Some i) f =
+    by_eqb (Sound s) i.size 1
     (λ e. by_ltb (Sound s) (get_or s 1 0) 0x80 (λ _. tt) (λ g. done (λ _. subst (λ (x : ℕ). 0x80 ≤ x) (sym (at_one e)) g)))
     (λ e. done (λ o. absurd (e (sym len ∙ o))))
   where
-    len : length (part s skip size) ≡ size
-    len = length_part s skip size f.2
+    len : length (part s i.skip i.size) ≡ i.size
+    len = length_part s i.skip i.size f.2
 
-    at_one : size ≡ 1 → get_or (part s skip size) 0 0 ≡ get_or s 1 0
-    at_one e = get_d_part s skip size 0 (omega arith) ∙ ap (λ (k : ℕ). get_or s k 0) (add-zero skip ∙ f.1 e)
+    at_one : i.size ≡ 1 → get_or (part s i.skip i.size) 0 0 ≡ get_or s 1 0
+    at_one e = get_d_part s i.skip i.size 0 (omega arith) ∙ ap (λ (k : ℕ). get_or s k 0) (add-zero i.skip ∙ f.1 e)
 
-    done : (length (part s skip size) ≡ 1 → 0x80 ≤ get_or (part s skip size) 0 0) → Sound s (Item l skip size)
-    done h = rw (f.3, plain_not (part s skip size) h, len) f.0
-sound_string s Broken f = tt
+    done : (length (part s i.skip i.size) ≡ 1 → 0x80 ≤ get_or (part s i.skip i.size) 0 0) → Sound s (Some i)
+    done h = rw (f.3, plain_not (part s i.skip i.size) h, len) f.0
+sound_string s None f = tt
 
-pub head_none : head [] ≡ Broken
+pub head_none : head [] ≡ None
 unfolding head
 head_none = refl
 
@@ -124,5 +124,5 @@ head-sound (b ∷ t) bs = go (ltb b 0x80) refl (ltb b 0xc0) refl
 pub read_is_encoding : ReadIsEncoding
 read_is_encoding s l skip size sl e = subst (Sound s) e (head-sound s sl.bytes)
 
-pub read_sound : (s : Bytes) {l : Bool} {skip size : ℕ} → Slice s → head s ≡ Item l skip size → encode (item_of l (part s skip size)) ++ drop (skip + size) s ≡ s
+pub read_sound : (s : Bytes) {l : Bool} {skip size : ℕ} → Slice s → head s ≡ item l skip size → encode (item_of l (part s skip size)) ++ drop (skip + size) s ≡ s
 read_sound s sl e = read_is_encoding s _ _ _ sl e

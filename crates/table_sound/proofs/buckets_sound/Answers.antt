@@ -1,6 +1,5 @@
 -- `table_sound::buckets_sound` meets its contract. The invariant: each bucket passed is sound. Assumes nothing.
 use mathlib.Core.Path.{sym, ◌∙◌}
-use mathlib.Core.Bool.{true}
 use native.Mathlib.Omega.{arith}
 use borrow.Author.Count.{below_more}
 use Rattle.table_model.specs.Layout.{count_of}
@@ -26,11 +25,6 @@ returns-then-not-slot_sound c = let at_loop = c in
     let s = at_loop.args.bytes.now in
     sym (below_false (count_of s) (bucket_sound s) at_loop.loop-slot.slot (omega (arith, at_loop.bucket_count-count.ensures))
     (sym c.slot_sound.ensures ∙ c.if-not-slot_sound.true))
-
-pub overflow_add-slot : goal.overflow_add-slot
-overflow_add-slot c =
-    let header : HeaderSound c.args.bytes.now = header-sound c.args.bytes.now c.requires in
-    let h = header in omega (arith, h.most, c.bucket_count-count.ensures)
 
 pub loop-slot-preserved : goal.loop-slot-preserved
 loop-slot-preserved c = let at_loop = c in

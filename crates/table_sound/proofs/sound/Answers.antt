@@ -12,7 +12,7 @@ unfolding table_sound
 returns-then-header_sound c = let s = c.args.bytes.now in
     c.buckets_sound.ensures ∙ sym (ap (λ b. b && buckets_sound s) (sym c.header_sound.ensures ∙ c.if-header_sound.true))
 
-pub returns : goal.returns
+pub returns-else-header_sound : goal.returns-else-header_sound
 unfolding table_sound
-returns c = let s = c.args.bytes.now in
-    sym (ap (λ b. b && buckets_sound s) (sym c.header_sound.ensures ∙ c.if-header_sound.false))
+returns-else-header_sound c = let s = c.args.bytes.now in
+    c.if-header_sound.false ∙ sym (ap (λ b. b && buckets_sound s) (sym c.header_sound.ensures ∙ c.if-header_sound.false))

@@ -5,10 +5,10 @@ use Rattle.text.specs.Hex.{hex_value}
 use native.Mathlib.Omega.{arith}
 use Rattle.text.proofs.hex_value.Goals as goal
 
-pub returns-then-b-lt58 : goal.returns-then-b-lt58
+pub returns-then-b-le57 : goal.returns-then-b-le57
 unfolding hex_value
-returns-then-b-lt58 c = record { value = sym (rw (lt-ltb c.args.b 58 c.if-b-lt58.true)); upper_bound = omega arith }
+returns-then-b-le57 c = record { value = sym (rw (lt-ltb c.args.b 58 (omega arith))); upper_bound = omega arith }
 
-pub returns-else-b-lt58 : goal.returns-else-b-lt58
+pub returns-else-b-le57 : goal.returns-else-b-le57
 unfolding hex_value
-returns-else-b-lt58 c = record { value = sym (rw (le-ltb c.args.b 58 c.if-b-lt58.false)); upper_bound = omega arith }
+returns-else-b-le57 c = record { value = sym (rw (le-ltb c.args.b 58 (omega arith))); upper_bound = omega arith }

@@ -1,31 +1,23 @@
--- `text::is_hex` meets its contract. The invariant: what is left decides. Assumes nothing.
-use mathlib.Core.Path.{sym, ◌∙◌}
-use Rattle.text.proofs.Hex.{pairs_on, pairs_first, pairs_second, pairs_odd, pairs_end, hex_empty, hex_some}
+-- `text::is_hex` meets its contract. Assumes nothing.
+use Rattle.std.proofs.Common.{rules, tests, ◌≡◌, ◌<◌, ◌%◌, length, sym, ◌∙◌}
+use Rattle.std.proofs.lemmas.Grind.{common_steps}
+use Rattle.std.proofs.lemmas.Iterator.{YieldsList-from_slice}
+use Rattle.std.proofs.lemmas.Iterator.Search.{all_from_yields_List}
+use Rattle.text.specs.Hex.{is_hex_digit}
+use Rattle.text.proofs.Hex.{hex_empty, hex_odd, hex_whole}
 use native.Mathlib.Omega.{arith}
 use Rattle.text.proofs.is_hex.Goals as goal
+use Rattle.text.proofs.is_hex.Goals.{then-not-is_empty, else-not-is_empty}
 
 pub returns-then-s-eq0 : goal.returns-then-s-eq0
-returns-then-s-eq0 c = sym (hex_empty c.args.s.now c.if-s-eq0.true)
+returns-then-s-eq0 c = let s = c.args.s.now in
+    let some : 0 < length s = grind (arith, common_steps) in
+    let even : length s % 2 ≡ 0 = grind (arith, common_steps) in
+    all_from_yields_List is_hex_digit _ _ c.all.result c.all.ensures.ran (YieldsList-from_slice s (cc)) (λ x b q k. search (rules, tests)) ∙ sym (hex_whole s some even)
 
-pub loop-i-init : goal.loop-i-init
-loop-i-init c = (omega arith, sym (hex_some c.args.s.now (omega arith)))
-
-pub returns-then-s-i-eq1 : goal.returns-then-s-i-eq1
-returns-then-s-i-eq1 c = let l = c.loop-i in sym (pairs_odd c.args.s.now l.i (omega arith)) ∙ l.invariant.1
-
-pub returns-then-not-is_hex_digit : goal.returns-then-not-is_hex_digit
-returns-then-not-is_hex_digit c = let l = c.loop-i in
-    sym (pairs_first c.args.s.now l.i (omega arith) (sym c.is_hex_digit.ensures ∙ c.if-not-is_hex_digit.true)) ∙ l.invariant.1
-
-pub returns-then-not-is_hex_digit-2 : goal.returns-then-not-is_hex_digit-2
-returns-then-not-is_hex_digit-2 c = let l = c.loop-i in
-    let s = c.args.s.now in
-    sym (pairs_second s l.i (omega arith) (sym c.is_hex_digit.ensures ∙ c.if-not-is_hex_digit.false) (sym c.is_hex_digit-in-loop-i.ensures ∙ c.if-not-is_hex_digit-2.true)) ∙ l.invariant.1
-
-pub loop-i-preserved : goal.loop-i-preserved
-loop-i-preserved c = let l = c.loop-i in
-    let s = c.args.s.now in
-    (omega arith, pairs_on s l.i (omega arith) (sym c.is_hex_digit.ensures ∙ c.if-not-is_hex_digit.false) (sym c.is_hex_digit-in-loop-i.ensures ∙ c.if-not-is_hex_digit-2.false) ∙ l.invariant.1)
-
-pub returns : goal.returns
-returns c = let l = c.loop-i in sym (pairs_end c.args.s.now l.i (omega arith)) ∙ l.invariant.1
+pub returns-else-s-eq0 : goal.returns-else-s-eq0
+returns-else-s-eq0 c = let s = c.args.s.now in
+    elim c.if-not-is_empty.branch [
+      | then-not-is_empty w ↦ let odd : length s % 2 ≡ 1 = grind (arith, common_steps) in c.if-s-eq0.false ∙ sym (hex_odd s odd)
+      | else-not-is_empty w ↦ let none : length s ≡ 0 = grind (arith, common_steps) in c.if-s-eq0.false ∙ sym (hex_empty s none)
+    ]

@@ -1,4 +1,3 @@
-use Prim.Native.Nat.{◌-◌, ◌≤◌}
 use mathlib.Core.Path.{◌≡◌}
 use lib.ListN.{take}
 use Rattle.octets.specs.Octets.{store}
@@ -6,7 +5,4 @@ use Rattle.text.specs.Hex.{unhex}
 use Rattle.text.proofs.put_unhex.Given as goal
 
 abbrev pub invariant-loop-i : goal.invariant-loop-i
-invariant-loop-i l = (l.i ≤ l.n) × (l.buf ≡ store l.initial.buf l.at (take l.i (unhex l.s)))
-
-abbrev pub decreases-loop-i : goal.decreases-loop-i
-decreases-loop-i l = l.n - l.i
+invariant-loop-i l = l.buf ≡ store l.initial.buf l.at (take l.i (unhex l.s))

@@ -1,34 +1,26 @@
 -- `text::read_digits` meets its contract. The invariant: reading goes on from the value. Assumes nothing.
-use mathlib.Core.Path.{◌≡◌, refl, sym, ap, ◌∙◌}
-use native.Mathlib.Numerals.{add-one}
-use Prim.Native.Nat.{suc}
+use mathlib.Core.Path.{◌≡◌, sym, ap, ◌∙◌}
 use mathlib.Core.List.{[], ◌∷◌}
-use lib.ListN.{get_or, drop, drop_of_length-le}
+use Prim.Native.Nat.{suc}
+use native.Mathlib.Numerals.{add-one}
+use native.Mathlib.Omega.{arith}
+use lib.ListN.{get_or, drop}
 use lib.Seq.{drop-cons}
-use Rattle.text.specs.declared.Decimal.TheVariants.{Value, NotDecimal}
+use Rattle.std.specs.Prelude.{Some, None}
 use Rattle.text.specs.Decimals.{digits_from}
 use Rattle.text.proofs.Decimals.{digits_on, digits_off}
-use native.Mathlib.Omega.{arith}
 use Rattle.text.proofs.read_digits.Goals as goal
 
-pub loop-i-init : goal.loop-i-init
-loop-i-init c = (omega arith, refl)
-
-pub returns-in_default : goal.returns-in_default
-returns-in_default c = let l = c.loop-i in
+pub loop-b-preserved : goal.loop-b-preserved
+loop-b-preserved c = let l = c.loop-b in
     let a = c.args in
     let s = a.s.now in
-    let off : digits_from a.limit l.value (get_or s l.i 0 ∷ []) ≡ NotDecimal = sym c.push_digit.ensures ∙ c.in_default.is in
-    sym (digits_off a.limit l.value (get_or s l.i 0) (drop (suc l.i) s) off) ∙ ap (digits_from a.limit l.value) (sym (drop-cons s l.i 0 (omega arith))) ∙ l.invariant.1
+    let read : digits_from a.limit l.value (get_or s l.b-index 0 ∷ []) ≡ Some c.in_ok-value.value = sym c.push_digit.ensures ∙ c.in_ok-value.was in
+    rw add-one (sym (digits_on a.limit l.value (get_or s l.b-index 0) _ (drop (suc l.b-index) s) read) ∙ ap (digits_from a.limit l.value) (sym (drop-cons s l.b-index 0 (omega arith))) ∙ l.invariant)
 
-pub loop-i-preserved : goal.loop-i-preserved
-loop-i-preserved c = let l = c.loop-i in
+pub returns-in_err-value : goal.returns-in_err-value
+returns-in_err-value c = let l = c.loop-b in
     let a = c.args in
     let s = a.s.now in
-    let read : digits_from a.limit l.value (get_or s l.i 0 ∷ []) ≡ Value c.in-Value.next = sym c.push_digit.ensures ∙ c.in-Value.is in
-    (omega arith, rw add-one (sym (digits_on a.limit l.value (get_or s l.i 0) _ (drop (suc l.i) s) read) ∙ ap (digits_from a.limit l.value) (sym (drop-cons s l.i 0 (omega arith))) ∙ l.invariant.1))
-
-pub returns : goal.returns
-returns c = let l = c.loop-i in
-    let a = c.args in
-    ap (digits_from a.limit l.value) (sym (drop_of_length-le a.s.now {i = l.i} (omega arith))) ∙ l.invariant.1
+    let off : digits_from a.limit l.value (get_or s l.b-index 0 ∷ []) ≡ None = sym c.push_digit.ensures ∙ c.in_err-value.was in
+    c.from_residual.ensures ∙ sym (digits_off a.limit l.value (get_or s l.b-index 0) (drop (suc l.b-index) s) off) ∙ ap (digits_from a.limit l.value) (sym (drop-cons s l.b-index 0 (omega arith))) ∙ l.invariant

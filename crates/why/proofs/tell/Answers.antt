@@ -2,6 +2,5 @@
 use Rattle.why.proofs.Ready.{at_start}
 use Rattle.why.proofs.tell.Goals as goal
 
-pub read_log-q-requires : goal.read_log-q-requires
-read_log-q-requires g c =
-    at_start c.table_memory-memory.result c.line_buffer-buffer.result _ c.table_memory-memory.ensures c.line_buffer-buffer.ensures c.start-tracked.ensures c.new-begun.ensures
+pub read_lines-requires-clause-begins : goal.read_lines-requires-clause-begins
+read_lines-requires-clause-begins g c = at_start c.table_memory-memory.result c.start.result c.table_memory-memory.ensures c.start.ensures

@@ -1,5 +1,6 @@
 -- `closest_nearest::Nearest::place` meets its contract. The invariant: those from k on are at least as far. Assumes nothing.
 use mathlib.Core.Path.{◌≡◌, sym, ◌∙◌}
+use Prim.Native.Nat.{◌+◌, ◌-◌}
 use native.Mathlib.Omega.{arith}
 use borrow.Author.Rules.{rules}
 use lib.ListN.{length}
@@ -22,7 +23,9 @@ returns-then-not-not_farther c =
     let at_loop = c in
     let start = at_loop in
     let args = start.args in
-    place_found args.self args.x start.requires size at_loop.loop-k.k (omega arith) (omega arith)
+    let e : at_loop.loop-k.k - 1 + 1 ≡ at_loop.loop-k.k = omega arith in
+    e
+    ∙ place_found args.self args.x start.requires size at_loop.loop-k.k (omega arith) (omega arith)
     (sym c.not_farther.ensures ∙ c.if-not-not_farther.true) at_loop.loop-k.invariant.1
 
 pub loop-k-preserved : goal.loop-k-preserved

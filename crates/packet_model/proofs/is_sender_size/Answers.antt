@@ -1,9 +1,0 @@
--- `packet_model::is_sender_size` meets its contract. Assumes nothing.
-use borrow.Author.Tests.{eq-eqb, ne_eqb}
-use Rattle.packet_model.proofs.is_sender_size.Goals as goal
-
-pub returns-then-n-eq0 : goal.returns-then-n-eq0
-returns-then-n-eq0 c = simp (eq-eqb _ _ c.if-n-eq0.true)
-
-pub returns : goal.returns
-returns c = simp (ne_eqb _ _ c.if-n-eq0.false) c.is_address_size.ensures
