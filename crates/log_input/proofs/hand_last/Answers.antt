@@ -12,4 +12,4 @@ slice_bounds-line-end g c =
 pub line-requires-clause-size : goal.line-requires-clause-size
 line-requires-clause-size g c =
     let small : c.in-Line.len ≤ 3000 = last_step c.args.begun c.in-Line.len c.requires.size (sym c.in-Line.ensures) in
-    simp length-take (omega (arith, small))
+    omega (arith, small, length-take c.in-Line.len c.args.buffer.now)

@@ -18,7 +18,7 @@ slice_bounds-line-end-in-Line g c =
 pub line-wanted-requires-clause-size : goal.line-wanted-requires-clause-size
 line-wanted-requires-clause-size g c =
     let f = line_step c.loop-len.begun c.args.chunk.now c.loop-len.at c.in-Line.len c.in-Line.next c.loop-len.invariant.0 (sym c.in-Line.ensures.step) in
-    simp length-take (omega (arith, f.0))
+    omega (arith, f.0, length-take c.in-Line.len c.next_line.new.buffer)
 
 pub returns-in-More-clause-size : goal.returns-in-More-clause-size
 returns-in-More-clause-size g c = more-step c.loop-len.begun c.args.chunk.now c.loop-len.at c.in-More.begun c.loop-len.invariant.0 (sym c.in-More.ensures.step)
