@@ -1,67 +1,34 @@
 -- `call_burst_lists::is_whole` meets its contract. Assumes nothing.
 use mathlib.Core.Path.{sym, ◌∙◌}
 use native.Mathlib.Omega.{arith}
-use Rattle.call_burst_lists.specs.Lists.{Burst}
-use Rattle.call_burst_lists.specs.Times.{lent_by}
 use Rattle.call_burst_lists.proofs.Whole.{sized-sum, not-whole}
 use Rattle.call_burst_lists.proofs.is_whole.Goals as goal
 
 pub returns-then-n-gt32 : goal.returns-then-n-gt32
-returns-then-n-gt32 c =
-    let lent : Burst = let x = c.args in
-    lent_by x.low x.buffer.now x.lengths.now x.signers.now x.addresses.now x.ports.now x.millis.now x.readings.now x.unix.now in
-    let start = c in
-    sym (not-whole lent start.args.room (λ z. omega (arith, z.count)))
+returns-then-n-gt32 c = sym (not-whole _ c.args.room (λ z. omega (arith, z.count)))
 
 pub returns-then-signers-n : goal.returns-then-signers-n
-returns-then-signers-n c =
-    let lent : Burst = let x = c.args in
-    lent_by x.low x.buffer.now x.lengths.now x.signers.now x.addresses.now x.ports.now x.millis.now x.readings.now x.unix.now in
-    let start = c in
-    sym (not-whole lent start.args.room (λ z. omega (arith, z.signers)))
+returns-then-signers-n c = sym (not-whole _ c.args.room (λ z. omega (arith, z.signers)))
 
 pub returns-then-addresses-n : goal.returns-then-addresses-n
-returns-then-addresses-n c =
-    let lent : Burst = let x = c.args in
-    lent_by x.low x.buffer.now x.lengths.now x.signers.now x.addresses.now x.ports.now x.millis.now x.readings.now x.unix.now in
-    let start = c in
-    sym (not-whole lent start.args.room (λ z. omega (arith, z.addresses)))
+returns-then-addresses-n c = sym (not-whole _ c.args.room (λ z. omega (arith, z.addresses)))
 
 pub returns-then-ports-n : goal.returns-then-ports-n
-returns-then-ports-n c =
-    let lent : Burst = let x = c.args in
-    lent_by x.low x.buffer.now x.lengths.now x.signers.now x.addresses.now x.ports.now x.millis.now x.readings.now x.unix.now in
-    let start = c in
-    sym (not-whole lent start.args.room (λ z. omega (arith, z.ports)))
+returns-then-ports-n c = sym (not-whole _ c.args.room (λ z. omega (arith, z.ports)))
 
 pub returns-then-times_of-n : goal.returns-then-times_of-n
-returns-then-times_of-n c =
-    let lent : Burst = let x = c.args in
-    lent_by x.low x.buffer.now x.lengths.now x.signers.now x.addresses.now x.ports.now x.millis.now x.readings.now x.unix.now in
-    let start = c in
-    sym (not-whole lent start.args.room (λ z. omega (arith, z.millis, c.times_of.ensures)))
+returns-then-times_of-n c = sym (not-whole _ c.args.room (λ z. omega (arith, z.millis, c.times_of.ensures)))
 
 pub returns-then-unix-n : goal.returns-then-unix-n
-returns-then-unix-n c =
-    let lent : Burst = let x = c.args in
-    lent_by x.low x.buffer.now x.lengths.now x.signers.now x.addresses.now x.ports.now x.millis.now x.readings.now x.unix.now in
-    let start = c in
-    sym (not-whole lent start.args.room (λ z. omega (arith, z.unix)))
+returns-then-unix-n c = sym (not-whole _ c.args.room (λ z. omega (arith, z.unix)))
 
 pub returns-then-room-n : goal.returns-then-room-n
-returns-then-room-n c =
-    let lent : Burst = let x = c.args in
-    lent_by x.low x.buffer.now x.lengths.now x.signers.now x.addresses.now x.ports.now x.millis.now x.readings.now x.unix.now in
-    let start = c in
-    sym (not-whole lent start.args.room (λ z. omega (arith, z.list)))
+returns-then-room-n c = sym (not-whole _ c.args.room (λ z. omega (arith, z.list)))
 
 pub returns : goal.returns
 returns c =
-    let lent : Burst = let x = c.args in
-    lent_by x.low x.buffer.now x.lengths.now x.signers.now x.addresses.now x.ports.now x.millis.now x.readings.now x.unix.now in
-    let start = c in
     c.adds_up.ensures
-    ∙ sym (sized-sum lent start.args.room (record {
+    ∙ sym (sized-sum _ c.args.room (record {
       count = omega arith;
       signers = omega arith;
       addresses = omega arith;
