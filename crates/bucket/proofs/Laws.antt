@@ -6,17 +6,14 @@ use Prim.Native.Nat.{ℕ, ◌+◌, ◌-◌, ◌*◌, ◌≤◌, ◌<◌}
 use native.Mathlib.Numerals.{add-one}
 use native.Mathlib.Omega.{arith}
 use lib.Dec.{ltb}
-use lib.ListN.{length, take, drop, set, get_or, length-append, length-set, length-map, length-drop, replicate}
+use lib.ListN.{length, take, set, get_or, length-append, length-set, length-map, replicate}
 use lib.Seq.{take-suc, take-suc-set, take-set-lt, length-take-le, take-take}
-use Rattle.std.specs.List.{copy_within}
-use Rattle.std.proofs.lemmas.List.{drop-take}
-use Rattle.std.proofs.lemmas.List.Edits.{take-paste}
 use borrow.Author.Tests.{lt-ltb, le-ltb, ltb-false}
 use Rattle.std.specs.List.{position, position_or_len}
 use Rattle.std.specs.Option.{unwrap_or}
 use Rattle.std.proofs.lemmas.List.Recursion.{is_position_or_len}
-use Rattle.octets.specs.Octets.{Bytes, part, store}
-use Rattle.octets.proofs.Laws.{length_cut, store-append}
+use Rattle.octets.specs.Octets.{Bytes, part, store, cut}
+use Rattle.octets.proofs.Laws.{cut_last, length_cut, store-append}
 use Rattle.lists.proofs.Laws.{by_test}
 use Rattle.entry.specs.declared.Entry.{Entry}
 use Rattle.entry.specs.Layout.{encode_entry, decode_entry, no_entry}
@@ -72,21 +69,15 @@ length-remove_at l i e h hi =
     let n : length (listed l) ≡ l.len = length-listed l e h in
     length_cut i 1 (listed l) (omega arith) ∙ ap (λ k. k - 1) n
 
--- those behind i moved up by one
-pub remove_holds : (l : EntryList) (i : ℕ) → length l.items ≡ 16 → l.len ≤ 16 → i < l.len
-    → Holds (record { len = l.len - 1; items = copy_within l.items (i + 1) l.len i }) (remove_at i (listed l))
-remove_holds l i e h hi =
+pub remove_holds : (l : EntryList) (es : List Entry) (i : ℕ) → length l.items ≡ 16 → length es ≡ 16 → l.len ≤ 16 → i < l.len
+    → cut (l.len - 1) 1 (take l.len es) ≡ remove_at i (listed l)
+    → Holds (record { len = l.len - 1; items = es }) (remove_at i (listed l))
+remove_holds l es i e e' h hi shifted =
     let c : length (remove_at i (listed l)) ≡ l.len - 1 = length-remove_at l i e h hi in
-    let n : l.len - 1 ≡ i + (l.len - (i + 1)) = omega arith in
-    let moved : take (l.len - 1) (copy_within l.items (i + 1) l.len i) ≡ take i l.items ++ take (l.len - (i + 1)) (drop (i + 1) l.items) =
-    rw n (take-paste l.items i (drop (i + 1) l.items) (l.len - (i + 1)) (omega arith) (omega (arith, length-drop (i + 1) l.items))) in
-    let kept : take i (listed l) ≡ take i l.items = take-take i l.len l.items (omega arith) in
-    let m : i + 1 + (l.len - (i + 1)) ≡ l.len = omega arith in
-    let behind : drop (i + 1) (listed l) ≡ take (l.len - (i + 1)) (drop (i + 1) l.items) = rw m at (drop-take (i + 1) (l.len - (i + 1)) l.items) in
     record {
       count = sym c;
       fits = omega arith;
-      held = cc (moved, kept, behind);
+      held = sym (cut_last es l.len (l.len - 1) 1 (omega arith) (omega arith)) ∙ shifted;
     }
 
 pub replace_holds : (l : EntryList) (i : ℕ) (e : Entry) → length l.items ≡ 16 → l.len ≤ 16 → i < l.len

@@ -59,9 +59,14 @@ impl EntryList {
         requires { (i < self.len) × (self.len ≤ 16) }
         ensures { Holds result (remove_at i (listed self)) }
     {
+        let last = self.len - 1;
         let mut l = self;
-        l.items.copy_within(i + 1..self.len, i);
-        l.len = self.len - 1;
+        // kept: the library's `copy_within` calls memmove, and a host need not have it
+        for k in i..last {
+            let next = l.items[k + 1];
+            l.items[k] = next;
+        }
+        l.len = last;
         l
     }
 

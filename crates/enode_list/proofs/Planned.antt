@@ -4,6 +4,7 @@
 --     read           what a line is read as
 --     ends-unfit, ends-full, ends-complete      the reading ends
 --     goes_on        a line is read, and its node stored
+--     fits           there are as many lines and as much room as nodes are read
 -- Assumes nothing.
 use Prim.Native.Nat.{ℕ, zero, suc, ◌+◌, ◌-◌, ◌≤◌, ◌<◌}
 use mathlib.Core.Path.{◌≡◌, refl, sym, ap, ◌∙◌}
@@ -110,3 +111,13 @@ module _ {text : Bytes} {old list : List Node} {count at : ℕ} (g : Going text 
                 ∙ ap (drop 1) g.rest
                 ∙ drop-drop 1 count old;
           }
+
+nodes_few : (room : ℕ) (ls : List Bytes) → (length (nodes_from room ls) ≤ length ls) × (length (nodes_from room ls) ≤ room)
+nodes_few room [] = (omega arith, omega arith)
+nodes_few zero (l ∷ ls) = (omega arith, omega arith)
+nodes_few (suc room) (l ∷ ls) = by_line l (λ n e. let h = nodes_few room ls in rw e (omega arith, omega arith)) (λ e. rw e (omega arith, omega arith))
+
+module _ (text : Bytes) (room : ℕ) (plan : Boot) (e : plan ≡ boot room text) where
+  pub fits : (plan.count ≤ length (lines_of text)) × (plan.count ≤ room)
+  unfolding boot_nodes
+  fits = let h = nodes_few room (lines_of text) in let n = ap (λ (b : Boot). b.count) e in (omega arith, omega arith)

@@ -3,6 +3,7 @@
 
 ghost use Rattle.std.specs.Prelude.{◌≤◌, length, IfSome};
 ghost use Rattle.log_input.specs.Sizes.{IsKept};
+ghost use Rattle.log_input.specs.Ends.{Ends};
 
 use log_lines::{Begun, Last, Step};
 use std::io::Read;
@@ -52,6 +53,7 @@ fn hand_over<L: Lines>(
     requires begins { L.ready lines.old }
     ensures ready { L.ready lines.new }
     ensures size { IfSome result (λ b. b.len ≤ 3000) }
+    ensures ends { IfSome result (λ b. Ends chunk.now begun 0 b) }
 {
     let mut begun = begun;
     let mut at = 0;

@@ -45,7 +45,12 @@ impl<'a, R: Print + Eprint> Lines for Replaying<'a, R> {
         !room.lost
     }
 
-    fn too_long(&mut self) -> bool {
+    // The replay and its table stay as they are.
+    fn too_long(&mut self) -> bool
+        requires { Ready self.old.memory self.old.out self.old.replay self.old.used }
+        ensures ready { Ready self.new.memory self.new.out self.new.replay self.new.used }
+        ensures same { (self.new.replay ≡ self.old.replay) × (self.new.memory ≡ self.old.memory) }
+    {
         let room = make_room(self.rt, &self.out, self.used);
         let at = room.at;
         let len = log_replay::too_long(&mut self.out[at..]);
@@ -55,8 +60,12 @@ impl<'a, R: Print + Eprint> Lines for Replaying<'a, R> {
         !room.lost
     }
 
-    // Writes the answers that wait.
-    fn pause(&mut self) -> bool {
+    // Writes the answers that wait; the replay, its table and the bytes of output stay as they are.
+    fn pause(&mut self) -> bool
+        requires { Ready self.old.memory self.old.out self.old.replay self.old.used }
+        ensures ready { Ready self.new.memory self.new.out self.new.replay self.new.used }
+        ensures same { (self.new.replay ≡ self.old.replay) × ((self.new.memory ≡ self.old.memory) × (self.new.out ≡ self.old.out)) }
+    {
         if self.lost {
             return false;
         }

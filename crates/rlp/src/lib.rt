@@ -71,21 +71,29 @@ pub fn read_header(s: &[u8]) -> Option<Item>
             size: 1,
         });
     }
-    if b < 192 {
-        return strict(s, sized(s, false, b - 128)?);
-    }
-    sized(s, true, b - 192)
+    let item = if b < 192 {
+        strict(s, sized(s, false, b - 128))?
+    } else {
+        sized(s, true, b - 192)?
+    };
+    // field by field: an item moved whole takes its padding along, which makes a header cost twice as much
+    Some(Item {
+        list: item.list,
+        skip: item.skip,
+        size: item.size,
+    })
 }
 
 // A string of one byte below 0x80 has no header.
 #[tactic(auto, unfolding(crate::specs::Reading::strict))]
-fn strict(s: &[u8], item: Item) -> Option<Item>
-    ensures { result ≡ spec.strict s.now (Some item) }
+fn strict(s: &[u8], found: Option<Item>) -> Option<Item>
+    ensures { result ≡ spec.strict s.now found }
 {
+    let item = found?;
     if item.size == 1 && (s.len() <= 1 || s[1] < 128) {
         return None;
     }
-    Some(item)
+    found
 }
 
 // Where the item at `at` ends: `at` itself where none stands there.

@@ -43,7 +43,12 @@ impl<'a, R: Eprint> Following<'a, R> {
 impl<'a, R: Eprint> Lines for Following<'a, R> {
     ghost ready = { λ s. Ready s.tracked s.memory };
 
-    fn line(&mut self, line: &[u8]) -> bool {
+    fn line(&mut self, line: &[u8]) -> bool
+        requires size { length line.now ≤ 3000 }
+        requires begins { Ready self.old.tracked self.old.memory }
+        ensures ready { Ready self.new.tracked self.new.memory }
+        ensures same { self.new.key.now ≡ self.old.key.now }
+    {
         if !self.is_counted() {
             return false;
         }
@@ -51,7 +56,12 @@ impl<'a, R: Eprint> Lines for Following<'a, R> {
         true
     }
 
-    fn too_long(&mut self) -> bool {
+    // The table stays as it is.
+    fn too_long(&mut self) -> bool
+        requires { Ready self.old.tracked self.old.memory }
+        ensures ready { Ready self.new.tracked self.new.memory }
+        ensures same { (self.new.memory ≡ self.old.memory) × (self.new.key.now ≡ self.old.key.now) }
+    {
         if !self.is_counted() {
             return false;
         }
@@ -59,7 +69,11 @@ impl<'a, R: Eprint> Lines for Following<'a, R> {
         true
     }
 
-    fn pause(&mut self) -> bool {
+    fn pause(&mut self) -> bool
+        requires { Ready self.old.tracked self.old.memory }
+        ensures ready { Ready self.new.tracked self.new.memory }
+        ensures same { (self.new.tracked ≡ self.old.tracked) × ((self.new.memory ≡ self.old.memory) × (self.new.key.now ≡ self.old.key.now)) }
+    {
         true
     }
 }

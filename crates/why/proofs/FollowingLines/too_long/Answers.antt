@@ -6,4 +6,9 @@ use Rattle.why.proofs.Ready.{after_line}
 use Rattle.why.proofs.FollowingLines.too_long.Goals as goal
 
 pub returns : goal.returns
-returns g c = let s = c.args.self.now in after_line too_long c.requires (ltb-true _ _ (sym c.if-not-is_counted.ensures)) (c.note_too_long-self.ensures s.key.now s.memory) refl
+returns g c =
+    let s = c.args.self.now in
+    record {
+      ready = after_line too_long c.requires (ltb-true _ _ (sym c.if-not-is_counted.ensures)) (c.note_too_long-self.ensures s.key.now s.memory) refl;
+      same = (refl, refl);
+    }
